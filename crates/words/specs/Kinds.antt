@@ -1,0 +1,65 @@
+-- 01's table of kinds. Assumes nothing.
+use mathlib.Core.Bool.{Bool, true, false}
+use mathlib.Core.List.{List, [], _∷_}
+use Prim.Native.Nat.{ℕ}
+use lib.ListN.{getD, length}
+use Rattle.words.specs.declared.Bin.{Bin}
+use Rattle.words.specs.declared.Row.{Row}
+use Rattle.words.specs.declared.Shape.{Shape}
+use Rattle.words.specs.declared.Sizing.{Sizing}
+use Rattle.words.specs.declared.Un.{Un}
+
+abbrev pub leaf : Shape → (space payload : Bool) → Sizing → Row
+leaf shape space payload sizing = record { shape = shape; arity = 0; space = space; payload = payload; sizing = sizing }
+
+abbrev pub one : Un → Sizing → Row
+one op sizing = record { shape = Shape.Unary op; arity = 1; space = false; payload = false; sizing = sizing }
+
+abbrev pub two : Bin → Sizing → Row
+two op sizing = record { shape = Shape.Binary op; arity = 2; space = false; payload = false; sizing = sizing }
+
+-- a line for each kind, from number 0
+abbrev pub kinds : List Row
+kinds =
+    leaf Shape.Top false false Sizing.Unsized
+    ∷ leaf Shape.Entry true true Sizing.Input
+    ∷ leaf Shape.Const false true Sizing.Constant
+    ∷ leaf Shape.Bind false true Sizing.Input
+    ∷ two Bin.Add Sizing.Same
+    ∷ two Bin.Sub Sizing.Same
+    ∷ two Bin.Mul Sizing.Same
+    ∷ two Bin.Xor Sizing.Same
+    ∷ two Bin.Or Sizing.Same
+    ∷ two Bin.IntLeftShift Sizing.Shift
+    ∷ two Bin.IntRightShift Sizing.Shift
+    ∷ two Bin.IntSignedRightShift Sizing.Shift
+    ∷ one Un.SignExtend Sizing.Extension
+    ∷ two Bin.IntCarry Sizing.Flag
+    ∷ two Bin.IntSCarry Sizing.Flag
+    ∷ two Bin.IntSBorrow Sizing.Flag
+    ∷ one Un.Int2Comp Sizing.Same
+    ∷ []
+
+abbrev pub kindCount : ℕ
+kindCount = 17
+
+unfoldable pub rowOf : ℕ → Row
+rowOf kind = getD kinds kind (leaf Shape.Top false false Sizing.Unsized)
+
+-- an operator's number
+abbrev pub unNumber : Un → ℕ
+unNumber Un.SignExtend = 12
+unNumber Un.Int2Comp = 16
+
+abbrev pub binNumber : Bin → ℕ
+binNumber Bin.Add = 4
+binNumber Bin.Sub = 5
+binNumber Bin.Mul = 6
+binNumber Bin.Xor = 7
+binNumber Bin.Or = 8
+binNumber Bin.IntLeftShift = 9
+binNumber Bin.IntRightShift = 10
+binNumber Bin.IntSignedRightShift = 11
+binNumber Bin.IntCarry = 13
+binNumber Bin.IntSCarry = 14
+binNumber Bin.IntSBorrow = 15
