@@ -1,9 +1,9 @@
 -- The node that two words stand for, and the two words of a node. Assumes nothing.
 use Prim.Native.Nat.{ℕ, _<_, _^_}
-use Rattle.words.specs.Header.{header, kindOf, sizeOf, leftOf, rightOf, spaceOf}
-use Rattle.words.specs.Kinds.{rowOf, unNumber, binNumber}
-use Rattle.words.specs.declared.Node.{Node}
-use Rattle.words.specs.declared.Shape.{Shape}
+use Rattle.format.specs.Header.{header, kindOf, sizeOf, leftOf, rightOf, spaceOf}
+use Rattle.format.specs.Kinds.{rowOf, unNumber, binNumber}
+use Rattle.format.specs.declared.Node.{Node}
+use Rattle.format.specs.declared.Shape.{Shape}
 
 -- the node of a shape with the fields of its words
 abbrev pub shaped : Shape → (word payload : ℕ) → Node

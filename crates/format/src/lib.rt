@@ -1,18 +1,4 @@
-// A node's two words: the fields of its header, the table of kinds, and the node that the words stand for.
-pub mod fields;
-pub mod kinds;
-pub mod nodes;
-
-// How many words a node takes.
-pub const NODE_WORDS: usize = 2;
-// How many nodes an arena holds at most.
-pub const MAX_NODES: usize = 4096;
-// How many nodes a tree may have, counted once for every way they are reached.
-pub const MAX_UNFOLDED: u64 = 4096;
-// How many nodes a path from the root may have.
-pub const MAX_PATH: u64 = 128;
-// How many kinds there are.
-pub const KIND_COUNT: usize = 17;
+// What a node's two words stand for: the types that the definitions in specs/ and the code share.
 
 // The operators of one child.
 pub enum Un {
@@ -64,6 +50,12 @@ pub struct Row {
     pub space: bool,
     pub payload: bool,
     pub sizing: Sizing,
+}
+
+// The size that a node's rule sees of a child. A child that is Top, or that the kind does not have, shows none.
+pub enum ChildSize {
+    Absent,
+    Bytes(u64),
 }
 
 // A node with its fields: sizes in bytes, and children as indices.

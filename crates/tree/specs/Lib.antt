@@ -1,0 +1,5 @@
+pub mod Tree
+pub mod Arena
+pub mod Form
+pub mod Meaning
+pub mod Rows
