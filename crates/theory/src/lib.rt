@@ -1,0 +1,1 @@
+// What follows from the rules and the run: see specs/. It has no code.
