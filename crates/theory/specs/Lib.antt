@@ -1,1 +1,5 @@
 pub mod TreeRun
+pub mod Bools
+pub mod Falls
+pub mod Normal
+pub mod Reduced
