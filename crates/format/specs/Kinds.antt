@@ -1,7 +1,6 @@
 -- 01's table of kinds. Assumes nothing.
 use mathlib.Core.Bool.{Bool, true, false}
 use mathlib.Core.List.{List, [], _∷_}
-use mathlib.Core.Path.{_≡_, refl, ap, sym, _∙_}
 use Prim.Native.Nat.{ℕ}
 use lib.ListN.{getD, length}
 use Rattle.format.specs.declared.Bin.{Bin}
@@ -44,8 +43,12 @@ kinds =
 abbrev pub kindCount : ℕ
 kindCount = 17
 
+-- the line of a number that is no kind's: Top's
+abbrev pub unknownRow : Row
+unknownRow = leaf Shape.Top false false Sizing.Unsized
+
 unfoldable pub rowOf : ℕ → Row
-rowOf kind = getD kinds kind (leaf Shape.Top false false Sizing.Unsized)
+rowOf kind = getD kinds kind unknownRow
 
 -- an operator's number
 abbrev pub unNumber : Un → ℕ
@@ -64,34 +67,3 @@ binNumber Bin.IntSignedRightShift = 11
 binNumber Bin.IntCarry = 13
 binNumber Bin.IntSCarry = 14
 binNumber Bin.IntSBorrow = 15
-
--- the table has an operator at its number
-pub shape-of-un : (op : Un) → rowOf (unNumber op) .shape ≡ Shape.Unary op
-unfolding rowOf
-shape-of-un Un.SignExtend = refl
-shape-of-un Un.Int2Comp = refl
-
-pub shape-of-bin : (op : Bin) → rowOf (binNumber op) .shape ≡ Shape.Binary op
-unfolding rowOf
-shape-of-bin Bin.Add = refl
-shape-of-bin Bin.Sub = refl
-shape-of-bin Bin.Mul = refl
-shape-of-bin Bin.Xor = refl
-shape-of-bin Bin.Or = refl
-shape-of-bin Bin.IntLeftShift = refl
-shape-of-bin Bin.IntRightShift = refl
-shape-of-bin Bin.IntSignedRightShift = refl
-shape-of-bin Bin.IntCarry = refl
-shape-of-bin Bin.IntSCarry = refl
-shape-of-bin Bin.IntSBorrow = refl
-
--- so a number tells its operator
-pub un-number-injective : (op op′ : Un) → unNumber op ≡ unNumber op′ → op ≡ op′
-un-number-injective op op′ e =
-    let p : Shape.Unary op ≡ Shape.Unary op′ = sym (shape-of-un op) ∙ ap (λ (n : ℕ). rowOf n .shape) e ∙ shape-of-un op′ in
-    cc
-
-pub bin-number-injective : (op op′ : Bin) → binNumber op ≡ binNumber op′ → op ≡ op′
-bin-number-injective op op′ e =
-    let p : Shape.Binary op ≡ Shape.Binary op′ = sym (shape-of-bin op) ∙ ap (λ (n : ℕ). rowOf n .shape) e ∙ shape-of-bin op′ in
-    cc

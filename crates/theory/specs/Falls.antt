@@ -18,7 +18,7 @@ use Rattle.rules.specs.declared.Constants.{Constants}
 use Rattle.rules.specs.declared.Equals.{Equals}
 use Rattle.rules.specs.declared.Near.{Near}
 use Rattle.rules.specs.declared.View.{View}
-use Rattle.theory.specs.Bools.{either}
+use Rattle.format.specs.Truth.{either}
 use Rattle.theory.specs.TreeRun.{leftOf, nearTree}
 use Rattle.tree.specs.Tree.{Tree, top, entry, const, bind, unary, binary, size, nodes, path, same}
 

@@ -9,7 +9,7 @@ use Rattle.rules.specs.Rules.{binAct, unAct}
 use Rattle.rules.specs.Run.{weight}
 use Rattle.rules.specs.declared.Act.{Act}
 use Rattle.rules.specs.declared.Near.{Near}
-use Rattle.theory.specs.Bools.{or-left, or-right, or-neither}
+use Rattle.format.specs.Truth.{or-left, or-right, or-neither}
 use Rattle.theory.specs.Normal.{IsConst, normal-inputless, normal-top}
 use Rattle.theory.specs.Reduced.{reduced-normal, reduced-top}
 use Rattle.theory.specs.TreeRun.{leftOf, nearTree, constTree, actedTree, unaryTree, binaryTree, visitTree, reducedFor, reduced}

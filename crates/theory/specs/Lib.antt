@@ -1,5 +1,4 @@
 pub mod TreeRun
-pub mod Bools
 pub mod Falls
 pub mod Normal
 pub mod Reduced

@@ -13,7 +13,7 @@ use Rattle.rules.specs.declared.Beside.{Beside}
 use Rattle.rules.specs.declared.Equals.{Equals}
 use Rattle.rules.specs.declared.Near.{Near}
 use Rattle.rules.specs.declared.View.{View}
-use Rattle.theory.specs.Bools.{or-left, or-right}
+use Rattle.format.specs.Truth.{or-left, or-right}
 use Rattle.theory.specs.TreeRun.{overOne, overTwo, reducedFor}
 use Rattle.tree.specs.Tree.{Tree, top, entry, const, bind, unary, binary, size, isTop, hasTop, hasInput, same}
 

@@ -11,7 +11,7 @@ use Rattle.rules.specs.Rules.{binAct, unAct}
 use Rattle.rules.specs.Run.{isSub, weight}
 use Rattle.rules.specs.declared.Act.{Act}
 use Rattle.rules.specs.declared.Near.{Near}
-use Rattle.theory.specs.Bools.{or-left, or-right, or-swapped, or-cong}
+use Rattle.format.specs.Truth.{or-left, or-right, or-swapped, or-cong}
 use Rattle.theory.specs.Falls.{nodes-positive, path-positive, sub-le, Within, Falls, falls-weaker, unary-falls, binary-falls}
 use Rattle.theory.specs.Normal.{Normal, normal-stays, normal-top, normal-inputless, IsConst, swap-keeps, unary-no-swap}
 use Rattle.theory.specs.TreeRun.{leftOf, nearTree, constTree, actedTree, unaryTree, binaryTree, overOne, overTwo, visitTree, reducedFor, reduced}
@@ -58,10 +58,10 @@ WellBelow again W = (u : Tree) → weight u < W → Outcome (weight u) (path u) 
 
 looser : {U W P Q : ℕ} {c d : Bool} {u : Tree} → U ≤ W → P ≤ Q → c ≡ d → Outcome U P c u → Outcome W Q d u
 looser h i e g = record {
-    normal = g .normal;
-    within = record { light = omega (arith, g .within .light); short = omega (arith, g .within .short) };
-    top-is = g .top-is ∙ e;
-  }
+  normal = g .normal;
+  within = record { light = omega (arith, g .within .light); short = omega (arith, g .within .short) };
+  top-is = g .top-is ∙ e;
+}
 
 redo-short : (op : Bin) (s v P : ℕ) (e : Tree) → suc (path e) ≤ P → path (binary op s e (constTree s v)) ≤ P
 redo-short op s v P e h =
@@ -94,10 +94,10 @@ max-mono m n p q h i = max-le (omega (arith, le-max-left p q)) (omega (arith, le
 unary-kept : (op : Un) (s : ℕ) (a a′ : Tree) → Outcome (weight a) (path a) (hasTop a) a′ → isTop a′ ≡ false → unAct op s a′ ≡ Act.Keep →
     Outcome (weight (unary op s a)) (path (unary op s a)) false (unary op s a′)
 unary-kept op s a a′ g e q = record {
-    normal = (g .normal, e, q);
-    within = record { light = omega (arith, sub-le a, g .within .light); short = omega (arith, g .within .short) };
-    top-is = refl;
-  }
+  normal = (g .normal, e, q);
+  within = record { light = omega (arith, sub-le a, g .within .light); short = omega (arith, g .within .short) };
+  top-is = refl;
+}
 
 binary-kept : (op : Bin) (s W P : ℕ) (a b : Tree) → 2 * suc (nodes a + nodes b) + isSub op ≤ W → suc (max (path a) (path b)) ≤ P → Normal a → Normal b →
     (isTop a || isTop b) ≡ false → binAct op s a b ≡ Act.Keep → Outcome W P false (binary op s a b)
@@ -126,10 +126,10 @@ module _ (again : Tree → Tree) (op : Bin) (s : ℕ) (a b a′ b′ : Tree) (g 
   binary-outcome : (c : Bool) → (isTop a′ || isTop b′) ≡ c →
       Outcome (weight (binary op s a b)) (path (binary op s a b)) (hasTop a || hasTop b) (binaryTree again c op s a′ b′)
   binary-outcome true e = record {
-      normal = tt;
-      within = record { light = omega (arith, nodes-positive a); short = omega arith };
-      top-is = sym e ∙ or-cong (h .top-is) (h′ .top-is);
-    }
+    normal = tt;
+    within = record { light = omega (arith, nodes-positive a); short = omega arith };
+    top-is = sym e ∙ or-cong (h .top-is) (h′ .top-is);
+  }
   binary-outcome false e =
       let x = normal-top a′ (h .normal) in
       let y = normal-top b′ (h′ .normal) in

@@ -14,7 +14,7 @@ use Rattle.rules.specs.Rules.{binAct, unAct}
 use Rattle.rules.specs.Run.{Out, out, append, makeConst, leftChild, near, acted, keptAs, unaryRun, binaryRun, visit, runFor, weight, simplified}
 use Rattle.rules.specs.declared.Act.{Act}
 use Rattle.rules.specs.declared.Near.{Near}
-use Rattle.theory.specs.Bools.{and-both, eqb-same, eqb-equal}
+use Rattle.format.specs.Truth.{and-left, and-right, eqb-same, eqb-equal}
 use Rattle.theory.specs.Falls.{nodes-positive, sub-le, Falls, falls-weaker, unary-falls, binary-falls}
 use Rattle.theory.specs.Normal.{Normal}
 use Rattle.theory.specs.Reduced.{WellBelow, outcome, no-more-nodes, reduced-normal}
@@ -59,11 +59,11 @@ pub record Stands (arena : List Node) (t : Tree) (o : Out) : Type 0 where
 
 pub appended-stands : (arena : List Node) (node : Node) → Ordered arena → Below (length arena) node → Stands arena (build (treeAt arena) node) (append node arena)
 appended-stands arena node w b = record {
-    ordered = appended-ordered arena node w b;
-    extends = appended-extends arena node;
-    bound = omega (arith, length-appended arena node);
-    is = tree-appended arena node w b;
-  }
+  ordered = appended-ordered arena node w b;
+  extends = appended-extends arena node;
+  bound = omega (arith, length-appended arena node);
+  is = tree-appended arena node w b;
+}
 
 left-stands : (arena : List Node) (i : ℕ) → i < length arena → (node : Node) → Below i node → treeAt arena i ≡ build (treeAt arena) node →
     (leftChild node i < length arena) × (treeAt arena (leftChild node i) ≡ leftOf (treeAt arena i))
@@ -130,8 +130,7 @@ pub kept-binary : (arena : List Node) → Ordered arena → (i : ℕ) → i < le
     at arena i ≡ Node.Binary op s j k → (c : Bool) → (eqb a j && eqb b k) ≡ c →
     Stands arena (binary op s (treeAt arena a) (treeAt arena b)) (keptAs c i (Node.Binary op s a b) arena)
 kept-binary arena w i hi op s j k a b ha hb e true q =
-    let z = and-both (eqb a j) (eqb b k) q in
-    itself-stands w i hi e (rw (eqb-equal a j (z .0), eqb-equal b k (z .1)))
+    itself-stands w i hi e (rw (eqb-equal a j (and-left (eqb a j) (eqb b k) q), eqb-equal b k (and-right (eqb a j) (eqb b k) q)))
 kept-binary arena w i hi op s j k a b ha hb e false q = appended-stands arena (Node.Binary op s a b) w (ha, hb)
 
 module _ (f : List Node → ℕ → Out) (g : Tree → Tree) (h : Simulates f g) where

@@ -5,7 +5,8 @@ use mathlib.Core.Path.{_≡_, refl, ap}
 use Prim.Native.Nat.{ℕ, suc, _+_, max}
 use native.Mathlib.Decide.{ℕ-discrete}
 use native.Mathlib.Omega.{arith}
-use Rattle.format.specs.Kinds.{binNumber, unNumber, bin-number-injective, un-number-injective}
+use Rattle.format.specs.KindRules.{same-bin-number, same-un-number}
+use Rattle.format.specs.Kinds.{binNumber, unNumber}
 use Rattle.format.specs.declared.Bin.{Bin}
 use Rattle.format.specs.declared.Un.{Un}
 
@@ -76,14 +77,14 @@ unfoldable pub un-discrete : Discrete Un
 un-discrete op op′ = go (ℕ-discrete (unNumber op) (unNumber op′))
   where
     go : Dec (unNumber op ≡ unNumber op′) → Dec (op ≡ op′)
-    go (yes e) = yes (un-number-injective op op′ e)
+    go (yes e) = yes (same-un-number op op′ e)
     go (no e) = no (λ p. e (ap unNumber p))
 
 unfoldable pub bin-discrete : Discrete Bin
 bin-discrete op op′ = go (ℕ-discrete (binNumber op) (binNumber op′))
   where
     go : Dec (binNumber op ≡ binNumber op′) → Dec (op ≡ op′)
-    go (yes e) = yes (bin-number-injective op op′ e)
+    go (yes e) = yes (same-bin-number op op′ e)
     go (no e) = no (λ p. e (ap binNumber p))
 
 abbrev pub does : {A : Type 0} → Dec A → Bool

@@ -1,4 +1,4 @@
--- Small facts of truth values that the theorems share. Assumes nothing.
+-- Small facts of truth values that the laws and theorems share. Assumes nothing.
 use mathlib.Core.Bool.{Bool, true, false, cond, not, _&&_, _||_}
 use mathlib.Core.Path.{_≡_, refl}
 use Prim.Native.Nat.{ℕ}
@@ -32,10 +32,13 @@ or-swapped a b e = or-neither b a (or-right a b e) (or-left a b e)
 pub or-cong : {a b c d : Bool} → a ≡ b → c ≡ d → (a || c) ≡ (b || d)
 or-cong p q = rw (p, q)
 
-pub and-both : (a b : Bool) → (a && b) ≡ true → (a ≡ true) × (b ≡ true)
-and-both true true e = (refl, refl)
-and-both true false e = (refl, e)
-and-both false b e = (e, cc)
+pub and-left : (a b : Bool) → (a && b) ≡ true → a ≡ true
+and-left true b e = refl
+and-left false b e = e
+
+pub and-right : (a b : Bool) → (a && b) ≡ true → b ≡ true
+and-right true b e = e
+and-right false b e = cc
 
 -- truth and falsehood differ
 pub not-both : {b : Bool} → b ≡ true → b ≡ false → ⊥

@@ -1,0 +1,69 @@
+// Between a node and its two words.
+ghost use mathlib.Core.Path.{_≡_};
+ghost use Rattle.format.specs.Nodes.{nodeOf, shaped, headerOf, payloadOf, Narrow};
+use crate::KIND_COUNT;
+use crate::fields;
+use crate::kinds;
+use format::Node;
+use format::Shape;
+
+// The node of a shape with the fields of its words.
+fn shaped_node(shape: Shape, word: u64, payload: u64) -> Node
+    ensures { λ r. ⌜ r ≡ shaped shape word payload ⌝ }
+{
+    match shape {
+        Shape::Top => Node::Top,
+        Shape::Entry => Node::Entry(fields::size_of(word), fields::space_of(word), payload),
+        Shape::Const => Node::Const(fields::size_of(word), payload),
+        Shape::Bind => Node::Bind(fields::size_of(word), payload),
+        Shape::Unary(op) => Node::Unary(op, fields::size_of(word), fields::left_of(word)),
+        Shape::Binary(op) => Node::Binary(
+            op,
+            fields::size_of(word),
+            fields::left_of(word),
+            fields::right_of(word),
+        ),
+    }
+}
+
+// The node that two words stand for. A number that is no kind's reads as Top; the check refuses it.
+pub fn node_of(word: u64, payload: u64) -> Node
+    ensures { λ r. ⌜ r ≡ nodeOf word payload ⌝ }
+{
+    let kind = fields::kind_of(word);
+    if kind < KIND_COUNT {
+        let row = kinds::row_of(kind);
+        let shape = row.shape;
+        return shaped_node(shape, word, payload);
+    }
+    Node::Top
+}
+
+pub fn header_of(node: Node) -> u64
+    requires { ⌜ Narrow node ⌝ }
+    ensures { λ r. ⌜ r ≡ headerOf node ⌝ }
+{
+    match node {
+        Node::Top => 0,
+        Node::Entry(size, space, _) => fields::pack(1, size, 0, 0, space),
+        Node::Const(size, _) => fields::pack(2, size, 0, 0, 0),
+        Node::Bind(size, _) => fields::pack(3, size, 0, 0, 0),
+        Node::Unary(op, size, left) => fields::pack(kinds::un_number(op), size, left as u64, 0, 0),
+        Node::Binary(op, size, left, right) => {
+            fields::pack(kinds::bin_number(op), size, left as u64, right as u64, 0)
+        }
+    }
+}
+
+pub fn payload_of(node: Node) -> u64
+    ensures { λ r. ⌜ r ≡ payloadOf node ⌝ }
+{
+    match node {
+        Node::Top => 0,
+        Node::Entry(_, _, offset) => offset,
+        Node::Const(_, value) => value,
+        Node::Bind(_, id) => id,
+        Node::Unary(_, _, _) => 0,
+        Node::Binary(_, _, _, _) => 0,
+    }
+}
