@@ -1,0 +1,4 @@
+pub mod Live
+pub mod Ended
+pub mod LiveLaws
+pub mod Pushed
