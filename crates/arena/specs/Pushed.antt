@@ -23,11 +23,11 @@ module _ (words : List ℕ) (count : ℕ) (live : Live words count) (node : Node
   -- without room nothing is stored
   pub not-pushed : capacity (length words) ≤ count → Ended words words count (append node (nodesOf count words)) Step.NoRoom
   not-pushed full = record {
-      same-length = refl;
-      kept = λ k h. refl;
-      past = λ k h. refl;
-      ran = omega (arith, length-appended (nodesOf count words) node, length-nodesOf count words);
-    }
+    same-length = refl;
+    kept = λ k h. refl;
+    past = λ k h. refl;
+    ran = omega (arith, length-appended (nodesOf count words) node, length-nodesOf count words);
+  }
 
   module _ (room : count < capacity (length words)) where
     abbrev half : List ℕ
@@ -66,10 +66,10 @@ module _ (words : List ℕ) (count : ℕ) (live : Live words count) (node : Node
 
     good-new : Good after count
     good-new = record {
-        header-is = ap headerOf node-stored ∙ sym header-stored;
-        payload-is = ap payloadOf node-stored ∙ sym payload-stored;
-        below = rw node-stored (subst (λ (n : ℕ). Below n node) (length-nodesOf count words) (new .below));
-      }
+      header-is = ap headerOf node-stored ∙ sym header-stored;
+      payload-is = ap payloadOf node-stored ∙ sym payload-stored;
+      below = rw node-stored (subst (λ (n : ℕ). Below n node) (length-nodesOf count words) (new .below));
+    }
 
     good-old : (i : ℕ) → i < count → Good after i
     good-old i h =
@@ -104,17 +104,17 @@ module _ (words : List ℕ) (count : ℕ) (live : Live words count) (node : Node
 
     did : Did words after (append node (nodesOf count words)) count (suc count)
     did = record {
-        live = live-after;
-        nodes-are = nodes-are;
-        root-is = sym (length-nodesOf count words);
-        root-below = omega arith;
-        later = λ k h. other k (λ e. omega arith) (λ e. omega arith);
-      }
+      live = live-after;
+      nodes-are = nodes-are;
+      root-is = sym (length-nodesOf count words);
+      root-below = omega arith;
+      later = λ k h. other k (λ e. omega arith) (λ e. omega arith);
+    }
 
     pub pushed : Ended words after count (append node (nodesOf count words)) (Step.Done count (count + 1))
     pushed = record {
-        same-length = same-length;
-        kept = λ k h. other k (λ e. omega arith) (λ e. omega arith);
-        past = λ k h. other k (λ e. omega arith) (λ e. omega arith);
-        ran = let e : suc count ≡ count + 1 = omega arith in subst (λ (m : ℕ). Did words after (append node (nodesOf count words)) count m) e did;
-      }
+      same-length = same-length;
+      kept = λ k h. other k (λ e. omega arith) (λ e. omega arith);
+      past = λ k h. other k (λ e. omega arith) (λ e. omega arith);
+      ran = let e : suc count ≡ count + 1 = omega arith in subst (λ (m : ℕ). Did words after (append node (nodesOf count words)) count m) e did;
+    }

@@ -1,5 +1,5 @@
 -- An operation worked at 64 bits and cut to w is the operation at w bits: what a fold of constants leans on. Assumes nothing.
-use mathlib.Core.Path.{_≡_, ap, _∙_}
+use mathlib.Core.Path.{_≡_, _∙_}
 use mathlib.Core.Logic.{⊎-elim}
 use Prim.Native.Nat.{ℕ, _+_, _-_, _*_, _%_, _^_, _≤_, _<_}
 use native.Mathlib.Nat.{mod-lt, mod-eq-of-lt}
@@ -37,7 +37,11 @@ module _ (w : ℕ) (small : w ≤ 64) where
       let c = wide-difference 0 d h in
       let r = remainder (2 ^ w) d in
       same-remainder (2 ^ w)
-      (record { left = c .left + r .left + 1; right = c .right + r .right; equal = omega (arith, c .equal, r .equal, mod-lt d (pow-pos w)) })
+      (record {
+        left = c .left + r .left + 1;
+        right = c .right + r .right;
+        equal = omega (arith, c .equal, r .equal, mod-lt d (pow-pos w));
+      })
 
   -- the low bits of -b
   pub negative-cut : (b : ℕ) → 0 < b → b ≤ 2 ^ w → (2 ^ 64 - b) % 2 ^ w ≡ 2 ^ w - b

@@ -1,7 +1,7 @@
 -- The result of each operation fits: it is a number of w bits if the operands are, and a flag is 0 or 1. Assumes nothing.
 use mathlib.Core.Bool.{Bool, true, false, cond}
 use mathlib.Core.Logic.{⊎-elim}
-use Prim.Native.Nat.{ℕ, suc, _+_, _-_, _*_, _/_, _^_, min, _≤_, _<_}
+use Prim.Native.Nat.{ℕ, _+_, _-_, _*_, _^_, min, _≤_, _<_}
 use native.Mathlib.Nat.{mod-lt, lt-of-le-of-lt}
 use native.Mathlib.Omega.{arith}
 use lib.Bits.{or-lt, xor-lt}
@@ -9,7 +9,8 @@ use lib.Dec.{ltb}
 use lib.IntN.{ℤ, _+ℤ_, _-ℤ_}
 use lib.Pow.{pow-mono, pow-pos, pow-sub-lt, shr-le}
 use lib.Signed.{mag}
-use Rattle.manual.specs.Operations.{intAdd, intSub, intMult, int2Comp, intXor, intOr, intLeft, intRight, intSRight, intSExt, intCarry, intSCarry, intSBorrow, signed, unfit}
+use Rattle.manual.specs.Operations.{intAdd, intSub, intMult, int2Comp, intXor, intOr, intLeft, intRight, intSRight, intSExt}
+use Rattle.manual.specs.Operations.{intCarry, intSCarry, intSBorrow, signed, unfit}
 use Rattle.manual.specs.Halves.{below-or, intSRight-lower, intSRight-upper, intSExt-lower, intSExt-upper}
 
 pub intAdd-fits : (w a b : ℕ) → intAdd w a b < 2 ^ w

@@ -1,15 +1,18 @@
 -- The laws of single operations that the rewriting rules lean on, over the width w: what an operation does with 0, 1, all ones,
--- an equal operand, itself. Rewritings holds those of sums and differences, Fits that results fit. Assumes nothing.
+-- an equal operand, itself. Cuts holds those of folds, Rewritings those of sums and differences, Fits that results fit. Assumes
+-- nothing.
 use mathlib.Core.Path.{_≡_, sym, ap, _∙_}
 use mathlib.Core.Logic.{⊎-elim}
-use Prim.Native.Nat.{ℕ, suc, _+_, _-_, _*_, _^_, _≤_, _<_}
-use native.Mathlib.Nat.{add-comm, add-zero, mul-comm, mul-one, mul-zero, div-one, zero-min, zero-mod, add-mod-right, mod-self, mod-lt, mod-eq-of-lt}
+use Prim.Native.Nat.{ℕ, suc, _+_, _-_, _^_, _≤_, _<_}
+use native.Mathlib.Nat.{add-comm, add-zero, mul-comm, mul-one, mul-zero, div-one, zero-min}
+use native.Mathlib.Nat.{zero-mod, add-mod-right, mod-self, mod-lt, mod-eq-of-lt}
 use native.Mathlib.Omega.{arith}
 use borrow.Author.Tests.{lt-ltb}
 use lib.Bits.{and-mask, or-add-and, or-comm, or-self, or-zero-r, xor-comm, xor-self, xor-zero-r}
 use lib.IntN.{+ℤ-invr}
 use lib.Pow.{pow-mono, pow-pos}
-use Rattle.manual.specs.Operations.{intAdd, intSub, intMult, int2Comp, intXor, intOr, intLeft, intRight, intSRight, intSExt, intSBorrow, signed, unfit}
+use Rattle.manual.specs.Operations.{intAdd, intSub, intMult, int2Comp, intXor, intOr, intLeft, intRight, intSRight, intSExt}
+use Rattle.manual.specs.Operations.{intSBorrow, signed, unfit}
 use Rattle.manual.specs.Modulo.{same-remainder, remainder}
 use Rattle.manual.specs.Halves.{below-or, two-halves, intSRight-lower, intSRight-upper, intSExt-lower, intSExt-upper}
 
@@ -83,7 +86,8 @@ intSBorrow-self w a = rw (+ℤ-invr (signed w a)) (rw (lt-ltb 0 (2 ^ (w - 1)) (p
 pub int2Comp-twice : (w a : ℕ) → a < 2 ^ w → int2Comp w (int2Comp w a) ≡ a
 int2Comp-twice w a h =
     let c = remainder (2 ^ w) (0 + (2 ^ w - a)) in
-    same-remainder (2 ^ w) {y = a} (record { left = c .right; right = c .left; equal = omega (arith, c .equal, mod-lt (0 + (2 ^ w - a)) (pow-pos w)) })
+    same-remainder (2 ^ w) {y = a}
+    (record { left = c .right; right = c .left; equal = omega (arith, c .equal, mod-lt (0 + (2 ^ w - a)) (pow-pos w)) })
     ∙ mod-eq-of-lt h
 
 pub intSExt-same : (w a : ℕ) → a < 2 ^ w → intSExt w w a ≡ a

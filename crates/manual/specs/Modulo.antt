@@ -1,6 +1,6 @@
 -- Equality up to multiples of a modulus M, by its witnesses: a law of sums and differences is then one equation without `%`,
 -- which omega proves. Assumes nothing.
-use mathlib.Core.Path.{_≡_, refl, ap, sym, _∙_, subst⁻¹}
+use mathlib.Core.Path.{_≡_, ap, sym, _∙_, subst⁻¹}
 use Prim.Native.Nat.{ℕ, _+_, _-_, _*_, _/_, _%_, _^_, _≤_}
 use native.Mathlib.Nat.{div-add-mod', add-mul-mod-self-right}
 use native.Mathlib.Omega.{arith}

@@ -1,11 +1,11 @@
 -- Why the rewritings of sums and differences keep the value, over the width w: constants are added, subtracted and negated at 64
 -- bits and cut to w, and each branch of a sign test is right whatever the sign. Assumes nothing.
-use mathlib.Core.Path.{_≡_, ap}
+use mathlib.Core.Path.{_≡_}
 use mathlib.Core.Bool.{Bool, true, false, cond}
-use Prim.Native.Nat.{ℕ, _+_, _-_, _*_, _%_, _^_, _≤_, _<_}
+use Prim.Native.Nat.{ℕ, _+_, _-_, _%_, _^_, _≤_, _<_}
 use native.Mathlib.Nat.{mod-lt}
 use native.Mathlib.Omega.{arith}
-use lib.Pow.{pow-mono, pow-pos}
+use lib.Pow.{pow-pos}
 use Rattle.manual.specs.Operations.{intAdd, intSub, int2Comp, negative64, amount64}
 use Rattle.manual.specs.Modulo.{Congruent, same-remainder, remainder, difference, chained, narrowed}
 use Rattle.manual.specs.Cuts.{wide, wide-difference}
@@ -39,7 +39,8 @@ module _ (w : ℕ) (small : w ≤ 64) where
     add-add =
         let x = remainder (2 ^ w) (e + a) in
         let c = cut-sum a b in
-        same-remainder (2 ^ w) (record { left = x .left + c .right; right = x .right + c .left; equal = omega (arith, x .equal, c .equal) })
+        same-remainder (2 ^ w)
+        (record { left = x .left + c .right; right = x .right + c .left; equal = omega (arith, x .equal, c .equal) })
 
     -- (e - a) + b = e - (a - b)
     pub sub-add : intAdd w (intSub w e a) b ≡ intSub w e (intSub 64 a b % 2 ^ w)
@@ -58,14 +59,16 @@ module _ (w : ℕ) (small : w ≤ 64) where
     sub-add-negated =
         let x = difference (2 ^ w) e a (omega arith) in
         let c = cut-opposite a b (wide w small fit-b) in
-        same-remainder (2 ^ w) (record { left = x .left + c .right; right = x .right + c .left; equal = omega (arith, x .equal, c .equal) })
+        same-remainder (2 ^ w)
+        (record { left = x .left + c .right; right = x .right + c .left; equal = omega (arith, x .equal, c .equal) })
 
     -- (e + a) - b = e + (a - b)
     pub add-sub : intSub w (intAdd w e a) b ≡ intAdd w e (intSub 64 a b % 2 ^ w)
     add-sub =
         let x = remainder (2 ^ w) (e + a) in
         let c = cut-difference a b (wide w small fit-b) in
-        same-remainder (2 ^ w) (record { left = x .left + c .right; right = x .right + c .left + 1; equal = omega (arith, x .equal, c .equal) })
+        same-remainder (2 ^ w)
+        (record { left = x .left + c .right; right = x .right + c .left + 1; equal = omega (arith, x .equal, c .equal) })
 
     -- (e + a) - b = e - (-(a - b))
     pub add-sub-negated : intSub w (intAdd w e a) b ≡ intSub w e (int2Comp 64 (intSub 64 a b) % 2 ^ w)

@@ -35,11 +35,11 @@ returns-2 : tie.Need-returns-2
 returns-2 c = search needs
 
 returns-3 : tie.Need-returns-3
-returns-3 c = 
+returns-3 c =
     rw ((c .before .before .enum-told3) .given .1, (c .left-child) .ensures) (left-child-at ((c .before .before .before .before .before .pre) .0) ((c .before .before .before .before .before .args) .a) ((c .before .before .before .before .before .pre) .1 .0) ((c .before .node-at) .result) ((c .before .node-at) .ensures))
 
 returns-4 : tie.Need-returns-4
-returns-4 c = 
+returns-4 c =
     rw ((c .before .before .enum-told4) .given .1, (c .left-child2) .ensures) (left-child-at ((c .before .before .before .before .before .pre) .0) ((c .before .before .before .before .before .args) .b) ((c .before .before .before .before .before .pre) .1 .1) ((c .before .node-at2) .result) ((c .before .node-at2) .ensures))
 
 pub near-spec : {M : Type 1} → statement M

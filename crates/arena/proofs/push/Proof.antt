@@ -10,7 +10,7 @@ capacity-requires : tie.Need-capacity-requires
 capacity-requires c κs = search needs
 
 returns : tie.Need-returns
-returns c = 
+returns c =
     not-pushed ((c .before .before .before .args) .words .now) ((c .before .before .before .args) .count) ((c .before .before .before .pre) .0) ((c .before .before .before .args) .node) ((c .before .before .before .pre) .1) (let z = (c .if1) .taken in rw ((c .before .capacity) .ensures) at z)
 
 header-of-requires : tie.Need-header-of-requires
@@ -47,7 +47,7 @@ same-length : tie.Need-same-length
 same-length c = search needs
 
 returns-2 : tie.Need-returns-2
-returns-2 c = 
+returns-2 c =
     rw ((c .before .header-of) .ensures, (c .payload-of) .ensures)
     (pushed ((c .before .before .before .before .before .args) .words .now) ((c .before .before .before .before .before .args) .count) ((c .before .before .before .before .before .pre) .0) ((c .before .before .before .before .before .args) .node) ((c .before .before .before .before .before .pre) .1) (let z = (c .before .before .if1) .left in let e = (c .before .before .before .capacity) .ensures in omega arith))
 

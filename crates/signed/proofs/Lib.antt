@@ -1,0 +1,2 @@
+-- Laws on plain numbers that the proofs cite.
+mod Signs
