@@ -32,7 +32,7 @@ enum-known-op-2 : tie.Need-enum-known-op-2
 enum-known-op-2 c = search needs
 
 node-at-requires-2 : tie.Need-node-at-requires-2
-node-at-requires-2 c κs = 
+node-at-requires-2 c κs =
     let b = below-at ((c .before .before .before .before .before .pre) .0) ((c .before .before .before .before .before .args) .i) ((c .before .before .before .before .before .pre) .1) _ (sym ((c .before .before .before .node-at) .ensures) ∙ (c .before .op2) .given .1) in
     let h = (c .before .before .before .before .before .pre) .1 in
     node-inside ((c .before .before .before .before .before .pre) .0) _ (omega (arith, b .1))
@@ -53,11 +53,11 @@ returns-4 : tie.Need-returns-4
 returns-4 c = rw (tree-of-node ((c .before .before .before .before .pre) .0) ((c .before .before .before .before .args) .i) ((c .before .before .before .before .pre) .1) _ (sym ((c .before .before .node-at) .ensures) ∙ (c .enum-told3) .given .1))
 
 returns-5 : tie.Need-returns-5
-returns-5 c = 
+returns-5 c =
     rw ((c .un-view) .ensures, tree-of-node ((c .before .before .before .before .before .before .pre) .0) ((c .before .before .before .before .before .before .args) .i) ((c .before .before .before .before .before .before .pre) .1) _ (sym ((c .before .before .before .before .node-at) .ensures) ∙ (c .before .before .op) .given .1))
 
 returns-6 : tie.Need-returns-6
-returns-6 c = 
+returns-6 c =
     let e = sym ((c .before .before .before .before .before .node-at) .ensures) ∙ (c .before .before .before .op2) .given .1 in
     let h = (c .before .before .before .before .before .before .before .pre) .1 in
     let b = below-at ((c .before .before .before .before .before .before .before .pre) .0) ((c .before .before .before .before .before .before .before .args) .i) ((c .before .before .before .before .before .before .before .pre) .1) _ e in
