@@ -4,3 +4,10 @@ pub mod Normal
 pub mod Reduced
 pub mod Inputs
 pub mod Simulation
+pub mod Sizes
+pub mod Seen
+pub mod Lawful
+pub mod Keeps
+pub mod BinValues
+pub mod UnValues
+pub mod Values

@@ -2,7 +2,7 @@
 use mathlib.Core.Bool.{Bool, true, false, cond, _&&_, _||_}
 use mathlib.Core.List.{List}
 use mathlib.Core.Path.{_≡_}
-use Prim.Native.Nat.{ℕ, zero, suc, _*_, _^_}
+use Prim.Native.Nat.{ℕ, zero, suc, _*_, _^_, _<_}
 use lib.Dec.{eqb, leb, ltb}
 use lib.ListN.{length}
 use Rattle.format.specs.Header.{kindOf, sizeOf, leftOf, rightOf, spaceOf}
@@ -77,7 +77,7 @@ rowSized words row word payload =
 unfoldable pub wellSized : List ℕ → ℕ → Bool
 wellSized words i = rowSized words (rowOf (kindOf (headerAt words i))) (headerAt words i) (payloadAt words i)
 
--- the same rule on trees
+-- the same rule on trees; an Entry's space fits its field, so that its first word has its size
 abbrev pub unSizing : Un → Sizing
 unSizing op = rowOf (unNumber op) .sizing
 
@@ -89,7 +89,7 @@ sizeSeen a = cond (isTop a) ChildSize.Absent (ChildSize.Bytes (size a))
 
 abbrev pub Sized : Tree → Type 0
 Sized top = Unit {0}
-Sized (entry s space offset) = sized Sizing.Input s offset ChildSize.Absent ChildSize.Absent ≡ true
+Sized (entry s space offset) = (sized Sizing.Input s offset ChildSize.Absent ChildSize.Absent ≡ true) × (space < 2 ^ 16)
 Sized (const s v) = sized Sizing.Constant s v ChildSize.Absent ChildSize.Absent ≡ true
 Sized (bind s id) = sized Sizing.Input s id ChildSize.Absent ChildSize.Absent ≡ true
 Sized (unary op s a) = (sized (unSizing op) s 0 (sizeSeen a) ChildSize.Absent ≡ true) × Sized a
