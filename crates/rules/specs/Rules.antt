@@ -84,8 +84,11 @@ addInner (View.Extension c) n = Beside.Stay
 addInner View.Other n = Beside.Stay
 
 -- (e + #0) -> e
+abbrev pub addBeside : View → ℕ → Beside
+addBeside e n = cond (eqb n 0) Beside.Itself (addInner e n)
+
 abbrev pub addRule : Rule
-addRule = record { swaps = true; beside = λ s e n. cond (eqb n 0) Beside.Itself (addInner e n); equal = Equals.Stay }
+addRule = record { swaps = true; beside = λ s e n. addBeside e n; equal = Equals.Stay }
 
 abbrev pub subInner : View → ℕ → Beside
 subInner (View.Constant a) n = Beside.Stay
@@ -97,37 +100,43 @@ subInner View.Negation n = Beside.Stay
 subInner (View.Extension c) n = Beside.Stay
 subInner View.Other n = Beside.Stay
 
--- (e - #0) -> e; (e - #n) -> (e + #-n) where n is negative as an i64; (e - e) -> #0
+-- (e - #0) -> e; (e - #n) -> (e + #-n) where n is negative as an i64
+abbrev pub subBeside : View → ℕ → Beside
+subBeside e n = cond (eqb n 0) Beside.Itself (cond (negative64 n) (Beside.Redo Bin.Add (int2Comp 64 n)) (subInner e n))
+
+-- (e - e) -> #0
 abbrev pub subRule : Rule
-subRule = record {
-  swaps = false;
-  beside = λ s e n. cond (eqb n 0) Beside.Itself (cond (negative64 n) (Beside.Redo Bin.Add (int2Comp 64 n)) (subInner e n));
-  equal = Equals.Zero;
-}
+subRule = record { swaps = false; beside = λ s e n. subBeside e n; equal = Equals.Zero }
 
 -- (e * #1) -> e; (e * #0) -> #0
+abbrev pub mulBeside : ℕ → Beside
+mulBeside n = cond (eqb n 1) Beside.Itself (cond (eqb n 0) (Beside.Make 0) Beside.Stay)
+
 abbrev pub mulRule : Rule
-mulRule = record {
-  swaps = true;
-  beside = λ s e n. cond (eqb n 1) Beside.Itself (cond (eqb n 0) (Beside.Make 0) Beside.Stay);
-  equal = Equals.Stay;
-}
+mulRule = record { swaps = true; beside = λ s e n. mulBeside n; equal = Equals.Stay }
 
--- (e ^ e) -> #0; (e ^ #0) -> e
+-- (e ^ #0) -> e
+abbrev pub xorBeside : ℕ → Beside
+xorBeside n = cond (eqb n 0) Beside.Itself Beside.Stay
+
+-- (e ^ e) -> #0
 abbrev pub xorRule : Rule
-xorRule = record { swaps = true; beside = λ s e n. cond (eqb n 0) Beside.Itself Beside.Stay; equal = Equals.Zero }
+xorRule = record { swaps = true; beside = λ s e n. xorBeside n; equal = Equals.Zero }
 
--- (e | e) -> e; (e | #0) -> e; (e | #ones) -> #ones, all ones of the size
+-- (e | #0) -> e; (e | #ones) -> #ones, all ones of the size
+abbrev pub orBeside : (s n : ℕ) → Beside
+orBeside s n = cond (eqb n 0) Beside.Itself (cond (eqb n (2 ^ (8 * s) - 1)) (Beside.Make n) Beside.Stay)
+
+-- (e | e) -> e
 abbrev pub orRule : Rule
-orRule = record {
-  swaps = true;
-  beside = λ s e n. cond (eqb n 0) Beside.Itself (cond (eqb n (2 ^ (8 * s) - 1)) (Beside.Make n) Beside.Stay);
-  equal = Equals.Left;
-}
+orRule = record { swaps = true; beside = λ s e n. orBeside s n; equal = Equals.Left }
 
 -- (e shifted by #0) -> e, for the three shifts
+abbrev pub shiftBeside : ℕ → Beside
+shiftBeside n = cond (eqb n 0) Beside.Itself Beside.Stay
+
 abbrev pub shiftRule : Rule
-shiftRule = record { swaps = false; beside = λ s e n. cond (eqb n 0) Beside.Itself Beside.Stay; equal = Equals.Stay }
+shiftRule = record { swaps = false; beside = λ s e n. shiftBeside n; equal = Equals.Stay }
 
 -- IntCarry and IntSCarry only fold
 abbrev pub carryRule : Rule
