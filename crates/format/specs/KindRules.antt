@@ -5,7 +5,7 @@ use Prim.Native.Nat.{ℕ, _<_, _≤_}
 use lib.Dec.{eqb, lit<}
 use lib.ListN.{length, List·getD-eq-default}
 use borrow.Author.Tests.{eqb-true}
-use Rattle.format.specs.Kinds.{kinds, kindCount, unknownRow, rowOf, unNumber, binNumber}
+use Rattle.format.specs.Kinds.{Kind, kinds, kindCount, unknownKind, lineOf, shapeOf, rowOf, unNumber, binNumber}
 use Rattle.format.specs.Table.{at-line}
 use Rattle.format.specs.Truth.{and-left, and-right}
 use Rattle.format.specs.declared.Bin.{Bin}
@@ -65,22 +65,23 @@ isUnsized Sizing.Shift = false
 isUnsized Sizing.Extension = false
 isUnsized Sizing.Flag = false
 
--- a line's number, children and uses are those of its shape, and only Top has no size
-pub record Ruled (kind : ℕ) (row : Row) : Type 0 where
-  pub number-is : numberOf (row .shape) ≡ kind
-  pub arity-is : row .arity ≡ arityOf (row .shape)
-  pub space-is : row .space ≡ usesSpace (row .shape)
-  pub payload-is : row .payload ≡ usesPayload (row .shape)
-  pub unsized-is : isUnsized (row .sizing) ≡ isTop (row .shape)
+-- a kind's number, children and uses are those of its shape, and only Top has no size
+pub record Ruled (kind : ℕ) (shape : Shape) (row : Row) : Type 0 where
+  pub number-is : numberOf shape ≡ kind
+  pub arity-is : row .arity ≡ arityOf shape
+  pub space-is : row .space ≡ usesSpace shape
+  pub payload-is : row .payload ≡ usesPayload shape
+  pub unsized-is : isUnsized (row .sizing) ≡ isTop shape
 
--- the same, as a test
-abbrev ruled : ℕ → Row → Bool
-ruled kind row =
-    eqb (numberOf (row .shape)) kind
-    && (eqb (row .arity) (arityOf (row .shape))
-    && (Bool·beq (row .space) (usesSpace (row .shape))
-    && (Bool·beq (row .payload) (usesPayload (row .shape))
-    && Bool·beq (isUnsized (row .sizing)) (isTop (row .shape)))))
+-- the same, as a test of a line
+abbrev ruled : ℕ → Kind → Bool
+ruled kind line =
+    let record { shape = shape; row = row } = line in
+    eqb (numberOf shape) kind
+    && (eqb (row .arity) (arityOf shape)
+    && (Bool·beq (row .space) (usesSpace shape)
+    && (Bool·beq (row .payload) (usesPayload shape)
+    && Bool·beq (isUnsized (row .sizing)) (isTop shape))))
 
 same : (a b : Bool) → Bool·beq a b ≡ true → a ≡ b
 same true true e = refl
@@ -88,13 +89,14 @@ same true false e = sym e
 same false true e = e
 same false false e = refl
 
-by-test : (kind : ℕ) (row : Row) → ruled kind row ≡ true → Ruled kind row
-by-test kind row t =
-    let number = eqb (numberOf (row .shape)) kind in
-    let arity = eqb (row .arity) (arityOf (row .shape)) in
-    let space = Bool·beq (row .space) (usesSpace (row .shape)) in
-    let payload = Bool·beq (row .payload) (usesPayload (row .shape)) in
-    let unsized = Bool·beq (isUnsized (row .sizing)) (isTop (row .shape)) in
+by-test : (kind : ℕ) (line : Kind) → ruled kind line ≡ true → Ruled kind (line .shape) (line .row)
+by-test kind line t =
+    let record { shape = shape; row = row } = line in
+    let number = eqb (numberOf shape) kind in
+    let arity = eqb (row .arity) (arityOf shape) in
+    let space = Bool·beq (row .space) (usesSpace shape) in
+    let payload = Bool·beq (row .payload) (usesPayload shape) in
+    let unsized = Bool·beq (isUnsized (row .sizing)) (isTop shape) in
     let after-number = and-right number (arity && (space && (payload && unsized))) t in
     let after-arity = and-right arity (space && (payload && unsized)) after-number in
     let after-space = and-right space (payload && unsized) after-arity in
@@ -110,18 +112,22 @@ pub kinds-counted : length kinds ≡ kindCount
 kinds-counted = refl
 
 -- every line of the table is ruled
-pub row-ruled : (kind : ℕ) → kind < kindCount → Ruled kind (rowOf kind)
-unfolding rowOf
-row-ruled kind h = by-test kind (rowOf kind) (at-line ruled unknownRow kinds refl kind h)
+pub row-ruled : (kind : ℕ) → kind < kindCount → Ruled kind (shapeOf kind) (rowOf kind)
+unfolding shapeOf rowOf
+row-ruled kind h = by-test kind (lineOf kind) (at-line ruled unknownKind kinds refl kind h)
 
 -- past the table
-pub row-of-unknown : (kind : ℕ) → kindCount ≤ kind → rowOf kind ≡ unknownRow
+pub row-of-unknown : (kind : ℕ) → kindCount ≤ kind → rowOf kind ≡ unknownKind .row
 unfolding rowOf
-row-of-unknown kind h = List·getD-eq-default kinds unknownRow h
+row-of-unknown kind h = ap (λ (line : Kind). line .row) (List·getD-eq-default kinds unknownKind h)
+
+pub shape-of-unknown : (kind : ℕ) → kindCount ≤ kind → shapeOf kind ≡ Shape.Top
+unfolding shapeOf
+shape-of-unknown kind h = ap (λ (line : Kind). line .shape) (List·getD-eq-default kinds unknownKind h)
 
 -- the line of a shape's number is the shape's
-pub shape-of-number : (shape : Shape) → rowOf (numberOf shape) .shape ≡ shape
-unfolding rowOf
+pub shape-of-number : (shape : Shape) → shapeOf (numberOf shape) ≡ shape
+unfolding shapeOf
 shape-of-number Shape.Top = refl
 shape-of-number Shape.Entry = refl
 shape-of-number Shape.Const = refl
@@ -140,10 +146,13 @@ shape-of-number (Shape.Binary Bin.IntCarry) = refl
 shape-of-number (Shape.Binary Bin.IntSCarry) = refl
 shape-of-number (Shape.Binary Bin.IntSBorrow) = refl
 
--- so a shape is known by its number, and an operator too
+-- so a kind of a shape's number has that shape
+pub shape-by-number : (shape : Shape) {kind : ℕ} → kind ≡ numberOf shape → shapeOf kind ≡ shape
+shape-by-number shape e = ap shapeOf e ∙ shape-of-number shape
+
+-- and a shape is known by its number, and an operator too
 pub same-number : (shape shape′ : Shape) → numberOf shape ≡ numberOf shape′ → shape ≡ shape′
-same-number shape shape′ e =
-    sym (shape-of-number shape) ∙ ap (λ (kind : ℕ). rowOf kind .shape) e ∙ shape-of-number shape′
+same-number shape shape′ e = sym (shape-of-number shape) ∙ shape-by-number shape′ e
 
 pub same-un-number : (op op′ : Un) → unNumber op ≡ unNumber op′ → op ≡ op′
 same-un-number op op′ e = cc (same-number (Shape.Unary op) (Shape.Unary op′) e)

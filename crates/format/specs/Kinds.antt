@@ -9,17 +9,25 @@ use Rattle.format.specs.declared.Shape.{Shape}
 use Rattle.format.specs.declared.Sizing.{Sizing}
 use Rattle.format.specs.declared.Un.{Un}
 
-abbrev pub leaf : Shape → (space payload : Bool) → Sizing → Row
-leaf shape space payload sizing = record { shape = shape; arity = 0; space = space; payload = payload; sizing = sizing }
+-- a kind: what it is, and the children, fields and sizes that it has
+pub record Kind : Type 0 where
+  pub shape : Shape
+  pub row : Row
 
-abbrev pub one : Un → Sizing → Row
-one op sizing = record { shape = Shape.Unary op; arity = 1; space = false; payload = false; sizing = sizing }
+abbrev pub leaf : Shape → (space payload : Bool) → Sizing → Kind
+leaf shape space payload sizing =
+    record { shape = shape; row = record { arity = 0; space = space; payload = payload; sizing = sizing } }
 
-abbrev pub two : Bin → Sizing → Row
-two op sizing = record { shape = Shape.Binary op; arity = 2; space = false; payload = false; sizing = sizing }
+abbrev pub one : Un → Sizing → Kind
+one op sizing =
+    record { shape = Shape.Unary op; row = record { arity = 1; space = false; payload = false; sizing = sizing } }
+
+abbrev pub two : Bin → Sizing → Kind
+two op sizing =
+    record { shape = Shape.Binary op; row = record { arity = 2; space = false; payload = false; sizing = sizing } }
 
 -- a line for each kind, from number 0
-abbrev pub kinds : List Row
+abbrev pub kinds : List Kind
 kinds =
     leaf Shape.Top false false Sizing.Unsized
     ∷ leaf Shape.Entry true true Sizing.Input
@@ -44,11 +52,17 @@ abbrev pub kindCount : ℕ
 kindCount = 17
 
 -- the line of a number that is no kind's: Top's
-abbrev pub unknownRow : Row
-unknownRow = leaf Shape.Top false false Sizing.Unsized
+abbrev pub unknownKind : Kind
+unknownKind = leaf Shape.Top false false Sizing.Unsized
+
+abbrev pub lineOf : ℕ → Kind
+lineOf kind = getD kinds kind unknownKind
+
+unfoldable pub shapeOf : ℕ → Shape
+shapeOf kind = lineOf kind .shape
 
 unfoldable pub rowOf : ℕ → Row
-rowOf kind = getD kinds kind unknownRow
+rowOf kind = lineOf kind .row
 
 -- an operator's number
 abbrev pub unNumber : Un → ℕ

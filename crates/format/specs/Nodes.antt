@@ -1,7 +1,7 @@
 -- The node that two words stand for, and the two words of a node. Assumes nothing.
 use Prim.Native.Nat.{ℕ, _<_, _^_}
 use Rattle.format.specs.Header.{header, kindOf, sizeOf, leftOf, rightOf, spaceOf}
-use Rattle.format.specs.Kinds.{rowOf, unNumber, binNumber}
+use Rattle.format.specs.Kinds.{shapeOf, unNumber, binNumber}
 use Rattle.format.specs.declared.Node.{Node}
 use Rattle.format.specs.declared.Shape.{Shape}
 
@@ -15,7 +15,7 @@ shaped (Shape.Unary op) word payload = Node.Unary op (sizeOf word) (leftOf word)
 shaped (Shape.Binary op) word payload = Node.Binary op (sizeOf word) (leftOf word) (rightOf word)
 
 unfoldable pub nodeOf : (word payload : ℕ) → Node
-nodeOf word payload = shaped (rowOf (kindOf word) .shape) word payload
+nodeOf word payload = shaped (shapeOf (kindOf word)) word payload
 
 abbrev pub headerOf : Node → ℕ
 headerOf Node.Top = header 0 0 0 0 0

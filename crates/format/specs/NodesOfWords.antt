@@ -8,8 +8,8 @@ use native.Mathlib.Omega.{arith}
 use lib.Dec.{lit<}
 use lib.Pow.{pow-pos}
 use Rattle.format.specs.Header.{field, kindOf, sizeOf, leftOf, rightOf, spaceOf, header, fields-of-header, header-of-fields}
-use Rattle.format.specs.Kinds.{rowOf, kindCount, unNumber, binNumber}
-use Rattle.format.specs.KindRules.{numberOf, arityOf, usesSpace, usesPayload, row-ruled, row-of-unknown, shape-of-number, un-number-known, bin-number-known}
+use Rattle.format.specs.Kinds.{shapeOf, rowOf, kindCount, unNumber, binNumber}
+use Rattle.format.specs.KindRules.{numberOf, arityOf, usesSpace, usesPayload, row-ruled, shape-of-unknown, shape-by-number, un-number-known, bin-number-known}
 use Rattle.format.specs.Nodes.{shaped, nodeOf, headerOf, payloadOf, Narrow}
 use Rattle.format.specs.declared.Node.{Node}
 use Rattle.format.specs.declared.Shape.{Shape}
@@ -19,13 +19,12 @@ pub node-of-shape : (shape : Shape) (word payload : ℕ) → kindOf word ≡ num
     nodeOf word payload ≡ shaped shape word payload
 unfolding nodeOf
 node-of-shape shape word payload e =
-    let same : rowOf (kindOf word) .shape ≡ shape = ap (λ (kind : ℕ). rowOf kind .shape) e ∙ shape-of-number shape in
-    ap (λ (s : Shape). shaped s word payload) same
+    ap (λ (s : Shape). shaped s word payload) (shape-by-number shape e)
 
 -- a number that is no kind's reads as Top
 pub node-of-unknown : (word payload : ℕ) → kindCount ≤ kindOf word → nodeOf word payload ≡ Node.Top
 unfolding nodeOf
-node-of-unknown word payload h = rw (row-of-unknown (kindOf word) h)
+node-of-unknown word payload h = rw (shape-of-unknown (kindOf word) h)
 
 -- the node of its words is the node
 pub node-of-header : (node : Node) → Narrow node → nodeOf (headerOf node) (payloadOf node) ≡ node
@@ -64,7 +63,7 @@ narrow-of-shape (Shape.Binary op) word payload =
 -- whatever two words hold, their node's fields fit a header
 pub narrow-of-words : (word payload : ℕ) → Narrow (nodeOf word payload)
 unfolding nodeOf
-narrow-of-words word payload = narrow-of-shape (rowOf (kindOf word) .shape) word payload
+narrow-of-words word payload = narrow-of-shape (shapeOf (kindOf word)) word payload
 
 -- a word of a known kind whose unused fields, with the payload, are zero
 pub record Unused (word payload : ℕ) : Type 0 where
@@ -74,7 +73,7 @@ pub record Unused (word payload : ℕ) : Type 0 where
   pub right-zero : rowOf (kindOf word) .arity < 2 → rightOf word ≡ 0
   pub space-zero : rowOf (kindOf word) .space ≡ false → spaceOf word ≡ 0
   pub payload-zero : rowOf (kindOf word) .payload ≡ false → payload ≡ 0
-  pub top-size-zero : rowOf (kindOf word) .shape ≡ Shape.Top → sizeOf word ≡ 0
+  pub top-size-zero : shapeOf (kindOf word) ≡ Shape.Top → sizeOf word ≡ 0
 
 -- the same by the shape
 record Spare (shape : Shape) (word payload : ℕ) : Type 0 where
@@ -105,7 +104,7 @@ module _ (word payload : ℕ) where
   payload-of-shape (Shape.Unary op) u = sym (u .payload-zero refl)
   payload-of-shape (Shape.Binary op) u = sym (u .payload-zero refl)
 
-  spare : Unused word payload → Spare (rowOf (kindOf word) .shape) word payload
+  spare : Unused word payload → Spare (shapeOf (kindOf word)) word payload
   spare u =
       let r = row-ruled (kindOf word) (u .known) in
       record {
@@ -120,8 +119,8 @@ module _ (word payload : ℕ) where
   -- the words of their node are the words
   pub header-of-node : Unused word payload → headerOf (nodeOf word payload) ≡ word
   unfolding nodeOf
-  header-of-node u = header-of-shape (rowOf (kindOf word) .shape) (spare u) ∙ header-of-fields word (u .word64)
+  header-of-node u = header-of-shape (shapeOf (kindOf word)) (spare u) ∙ header-of-fields word (u .word64)
 
   pub payload-of-node : Unused word payload → payloadOf (nodeOf word payload) ≡ payload
   unfolding nodeOf
-  payload-of-node u = payload-of-shape (rowOf (kindOf word) .shape) (spare u)
+  payload-of-node u = payload-of-shape (shapeOf (kindOf word)) (spare u)

@@ -42,10 +42,8 @@ pub enum Sizing {
     Flag,
 }
 
-// A kind's line of the table: what it is, how many children it has, whether it uses the space and the payload, and its
-// rule of sizes.
+// A kind's line of the table: how many children it has, whether it uses the space and the payload, and its rule of sizes.
 pub struct Row {
-    pub shape: Shape,
     pub arity: u8,
     pub space: bool,
     pub payload: bool,

@@ -1,7 +1,7 @@
-// The kinds by number: the one table that drives the check of form and sizes and the reading of nodes.
+// The kinds by number: the one table that drives the check of form and sizes, and the shapes that nodes are read by.
 ghost use mathlib.Core.Path.{_≡_};
 ghost use Prim.Native.Nat.{_<_};
-ghost use Rattle.format.specs.Kinds.{rowOf, unNumber, binNumber, kindCount};
+ghost use Rattle.format.specs.Kinds.{shapeOf, rowOf, unNumber, binNumber, kindCount};
 use crate::KIND_COUNT;
 use format::Bin;
 use format::Row;
@@ -9,126 +9,89 @@ use format::Shape;
 use format::Sizing;
 use format::Un;
 
+const TOP: Row = Row {
+    arity: 0,
+    space: false,
+    payload: false,
+    sizing: Sizing::Unsized,
+};
+
+const ENTRY: Row = Row {
+    arity: 0,
+    space: true,
+    payload: true,
+    sizing: Sizing::Input,
+};
+
+const CONST: Row = Row {
+    arity: 0,
+    space: false,
+    payload: true,
+    sizing: Sizing::Constant,
+};
+
+const BIND: Row = Row {
+    arity: 0,
+    space: false,
+    payload: true,
+    sizing: Sizing::Input,
+};
+
+// Rows that kinds of one child, or of two, share.
+const ONE_SAME: Row = Row {
+    arity: 1,
+    space: false,
+    payload: false,
+    sizing: Sizing::Same,
+};
+
+const ONE_EXTENSION: Row = Row {
+    arity: 1,
+    space: false,
+    payload: false,
+    sizing: Sizing::Extension,
+};
+
+const TWO_SAME: Row = Row {
+    arity: 2,
+    space: false,
+    payload: false,
+    sizing: Sizing::Same,
+};
+
+const TWO_SHIFT: Row = Row {
+    arity: 2,
+    space: false,
+    payload: false,
+    sizing: Sizing::Shift,
+};
+
+const TWO_FLAG: Row = Row {
+    arity: 2,
+    space: false,
+    payload: false,
+    sizing: Sizing::Flag,
+};
+
+// A line for each kind, from number 0.
 const KINDS: [Row; KIND_COUNT] = [
-    Row {
-        shape: Shape::Top,
-        arity: 0,
-        space: false,
-        payload: false,
-        sizing: Sizing::Unsized,
-    },
-    Row {
-        shape: Shape::Entry,
-        arity: 0,
-        space: true,
-        payload: true,
-        sizing: Sizing::Input,
-    },
-    Row {
-        shape: Shape::Const,
-        arity: 0,
-        space: false,
-        payload: true,
-        sizing: Sizing::Constant,
-    },
-    Row {
-        shape: Shape::Bind,
-        arity: 0,
-        space: false,
-        payload: true,
-        sizing: Sizing::Input,
-    },
-    Row {
-        shape: Shape::Binary(Bin::Add),
-        arity: 2,
-        space: false,
-        payload: false,
-        sizing: Sizing::Same,
-    },
-    Row {
-        shape: Shape::Binary(Bin::Sub),
-        arity: 2,
-        space: false,
-        payload: false,
-        sizing: Sizing::Same,
-    },
-    Row {
-        shape: Shape::Binary(Bin::Mul),
-        arity: 2,
-        space: false,
-        payload: false,
-        sizing: Sizing::Same,
-    },
-    Row {
-        shape: Shape::Binary(Bin::Xor),
-        arity: 2,
-        space: false,
-        payload: false,
-        sizing: Sizing::Same,
-    },
-    Row {
-        shape: Shape::Binary(Bin::Or),
-        arity: 2,
-        space: false,
-        payload: false,
-        sizing: Sizing::Same,
-    },
-    Row {
-        shape: Shape::Binary(Bin::IntLeftShift),
-        arity: 2,
-        space: false,
-        payload: false,
-        sizing: Sizing::Shift,
-    },
-    Row {
-        shape: Shape::Binary(Bin::IntRightShift),
-        arity: 2,
-        space: false,
-        payload: false,
-        sizing: Sizing::Shift,
-    },
-    Row {
-        shape: Shape::Binary(Bin::IntSignedRightShift),
-        arity: 2,
-        space: false,
-        payload: false,
-        sizing: Sizing::Shift,
-    },
-    Row {
-        shape: Shape::Unary(Un::SignExtend),
-        arity: 1,
-        space: false,
-        payload: false,
-        sizing: Sizing::Extension,
-    },
-    Row {
-        shape: Shape::Binary(Bin::IntCarry),
-        arity: 2,
-        space: false,
-        payload: false,
-        sizing: Sizing::Flag,
-    },
-    Row {
-        shape: Shape::Binary(Bin::IntSCarry),
-        arity: 2,
-        space: false,
-        payload: false,
-        sizing: Sizing::Flag,
-    },
-    Row {
-        shape: Shape::Binary(Bin::IntSBorrow),
-        arity: 2,
-        space: false,
-        payload: false,
-        sizing: Sizing::Flag,
-    },
-    Row {
-        shape: Shape::Unary(Un::Int2Comp),
-        arity: 1,
-        space: false,
-        payload: false,
-        sizing: Sizing::Same,
-    },
+    TOP,
+    ENTRY,
+    CONST,
+    BIND,
+    TWO_SAME, // Add
+    TWO_SAME, // Sub
+    TWO_SAME, // Mul
+    TWO_SAME, // Xor
+    TWO_SAME, // Or
+    TWO_SHIFT, // IntLeftShift
+    TWO_SHIFT, // IntRightShift
+    TWO_SHIFT, // IntSignedRightShift
+    ONE_EXTENSION, // SignExtend
+    TWO_FLAG, // IntCarry
+    TWO_FLAG, // IntSCarry
+    TWO_FLAG, // IntSBorrow
+    ONE_SAME, // Int2Comp
 ];
 
 pub fn row_of(kind: usize) -> Row
@@ -136,6 +99,32 @@ pub fn row_of(kind: usize) -> Row
     ensures { λ r. ⌜ r ≡ rowOf kind ⌝ }
 {
     KINDS[kind]
+}
+
+// A number that is no kind's has Top's shape.
+pub fn shape_of(kind: usize) -> Shape
+    ensures { λ r. ⌜ r ≡ shapeOf kind ⌝ }
+{
+    match kind {
+        0 => Shape::Top,
+        1 => Shape::Entry,
+        2 => Shape::Const,
+        3 => Shape::Bind,
+        4 => Shape::Binary(Bin::Add),
+        5 => Shape::Binary(Bin::Sub),
+        6 => Shape::Binary(Bin::Mul),
+        7 => Shape::Binary(Bin::Xor),
+        8 => Shape::Binary(Bin::Or),
+        9 => Shape::Binary(Bin::IntLeftShift),
+        10 => Shape::Binary(Bin::IntRightShift),
+        11 => Shape::Binary(Bin::IntSignedRightShift),
+        12 => Shape::Unary(Un::SignExtend),
+        13 => Shape::Binary(Bin::IntCarry),
+        14 => Shape::Binary(Bin::IntSCarry),
+        15 => Shape::Binary(Bin::IntSBorrow),
+        16 => Shape::Unary(Un::Int2Comp),
+        _ => Shape::Top,
+    }
 }
 
 pub fn un_number(op: Un) -> u64

@@ -1,7 +1,6 @@
 // Between a node and its two words.
 ghost use mathlib.Core.Path.{_≡_};
 ghost use Rattle.format.specs.Nodes.{nodeOf, shaped, headerOf, payloadOf, Narrow};
-use crate::KIND_COUNT;
 use crate::fields;
 use crate::kinds;
 use format::Node;
@@ -30,13 +29,8 @@ fn shaped_node(shape: Shape, word: u64, payload: u64) -> Node
 pub fn node_of(word: u64, payload: u64) -> Node
     ensures { λ r. ⌜ r ≡ nodeOf word payload ⌝ }
 {
-    let kind = fields::kind_of(word);
-    if kind < KIND_COUNT {
-        let row = kinds::row_of(kind);
-        let shape = row.shape;
-        return shaped_node(shape, word, payload);
-    }
-    Node::Top
+    let shape = kinds::shape_of(fields::kind_of(word));
+    shaped_node(shape, word, payload)
 }
 
 pub fn header_of(node: Node) -> u64

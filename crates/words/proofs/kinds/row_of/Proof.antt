@@ -1,6 +1,7 @@
 -- The constant table is the definition's. Assumes nothing.
 use borrow.Author.Needs.{needs}
-use Rattle.format.specs.Kinds.{rowOf}
+use lib.ListN.{List·getD-map}
+use Rattle.format.specs.Kinds.{Kind, kinds, unknownKind, rowOf}
 use Rattle.words.proofs.kinds.row_of.Statement.{statement}
 use Rattle.words.proofs.kinds.row_of.Tie as tie
 
@@ -12,7 +13,7 @@ array-copy-out-result c = search needs
 
 returns : tie.Need-returns
 unfolding rowOf
-returns c = search needs
+returns c = List·getD-map (λ (line : Kind). line .row) kinds (c .before .args .kind) unknownKind
 
 pub row-of-spec : {M : Type 1} → statement M
 row-of-spec = tie.close (tie.spec mul-result array-copy-out-result returns)
