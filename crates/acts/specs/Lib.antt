@@ -1,2 +1,4 @@
 pub mod Views
 pub mod Operated
+pub mod Moved
+pub mod Decided

@@ -1,15 +1,13 @@
+-- A shift by a constant, case by case. Assumes nothing.
+use borrow.Author.Tests.{eq-eqb, ne-eqb}
 use Rattle.acts.proofs.shift.shift_beside.Statement.{statement}
 use Rattle.acts.proofs.shift.shift_beside.Tie as tie
-use Rattle.acts.proofs.shift.shift_beside.Reads as reads
-use Rattle.acts.proofs.shift.shift_beside.Lts as lts
 
--- src/shift.rt:11:9
 returns : tie.Need-returns
-returns c = ?
+returns c = rw (eq-eqb ((c .before .args) .n) 0 ((c .if1) .taken))
 
--- src/shift.rt:6:1
 returns-2 : tie.Need-returns-2
-returns-2 c = ?
+returns-2 c = rw (ne-eqb ((c .before .args) .n) 0 ((c .if1) .left))
 
 pub shift-beside-spec : {M : Type 1} → statement M
 shift-beside-spec = tie.close (tie.spec returns returns-2)

@@ -1,63 +1,49 @@
+-- SignExtend to another size, by what it sees of its child. Assumes nothing.
 use borrow.Author.Needs.{needs}
+use borrow.Author.Tests.{le-leb, lt-leb}
+use native.Mathlib.Omega.{arith}
 use Rattle.acts.proofs.sign_extend.sext_inner.Statement.{statement}
 use Rattle.acts.proofs.sign_extend.sext_inner.Tie as tie
-use Rattle.acts.proofs.sign_extend.sext_inner.Reads as reads
-use Rattle.acts.proofs.sign_extend.sext_inner.Lts as lts
-use Rattle.values.proofs.un_value.Reads as un-value-reads
 
--- src/sign_extend.rt:19:24
 enum-known-e : tie.Need-enum-known-e
 enum-known-e c = search needs
 
--- src/sign_extend.rt:19:40
 un-value-requires : tie.Need-un-value-requires
-un-value-requires c κs = ?
+un-value-requires c κs = rw ((c .before .e) .given .1) at ((c .before .before .before .pre))
 
--- src/sign_extend.rt:21:25
 enum-known-e-2 : tie.Need-enum-known-e-2
 enum-known-e-2 c = search needs
 
--- src/sign_extend.rt:23:17
 returns : tie.Need-returns
-returns c = ?
+returns c = rw ((c .before .before .e2) .given .1, le-leb _ _ ((c .if1) .taken))
 
--- src/sign_extend.rt:27:26
 enum-told : tie.Need-enum-told
 enum-told c = search needs
 
--- src/sign_extend.rt:28:27
 enum-told-2 : tie.Need-enum-told-2
 enum-told-2 c = search needs
 
--- src/sign_extend.rt:29:27
 enum-told-3 : tie.Need-enum-told-3
 enum-told-3 c = search needs
 
--- src/sign_extend.rt:30:24
 enum-told-4 : tie.Need-enum-told-4
 enum-told-4 c = search needs
 
--- src/sign_extend.rt:13:1
 returns-2 : tie.Need-returns-2
-returns-2 c = ?
+returns-2 c = rw ((c .before .before .e) .given .1, (c .un-value) .ensures)
 
--- src/sign_extend.rt:13:1
 returns-3 : tie.Need-returns-3
-returns-3 c = ?
+returns-3 c = rw ((c .before .before .e2) .given .1, lt-leb _ _ ((c .if1) .left))
 
--- src/sign_extend.rt:13:1
 returns-4 : tie.Need-returns-4
 returns-4 c = search needs
 
--- src/sign_extend.rt:13:1
 returns-5 : tie.Need-returns-5
 returns-5 c = search needs
 
--- src/sign_extend.rt:13:1
 returns-6 : tie.Need-returns-6
 returns-6 c = search needs
 
--- src/sign_extend.rt:13:1
 returns-7 : tie.Need-returns-7
 returns-7 c = search needs
 

@@ -1,84 +1,63 @@
+-- Sub beside a constant, case by case. Assumes nothing.
 use borrow.Author.Needs.{needs}
+use borrow.Author.Tests.{eq-eqb, ne-eqb}
+use mathlib.Core.Path.{sym, _∙_}
 use Rattle.acts.proofs.sub.sub_beside.Statement.{statement}
 use Rattle.acts.proofs.sub.sub_beside.Tie as tie
-use Rattle.acts.proofs.sub.sub_beside.Reads as reads
-use Rattle.acts.proofs.sub.sub_beside.Lts as lts
-use Rattle.acts.proofs.beside.moved.Reads as moved-reads
-use Rattle.arith.proofs.wrap.wrapping_add.Reads as wrapping-add-reads
-use Rattle.arith.proofs.wrap.wrapping_neg.Reads as wrapping-neg-reads
-use Rattle.signed.proofs.is_negative.Reads as is-negative-reads
 
--- src/sub.rt:17:9
 returns : tie.Need-returns
-returns c = ?
+returns c = rw (eq-eqb ((c .before .args) .n) 0 ((c .if1) .taken))
 
--- src/sub.rt:20:8
 is-negative-requires : tie.Need-is-negative-requires
 is-negative-requires c κs = search needs
 
--- src/sub.rt:21:39
 wrapping-neg-requires : tie.Need-wrapping-neg-requires
 wrapping-neg-requires c κs = search needs
 
--- src/sub.rt:21:9
 returns-2 : tie.Need-returns-2
-returns-2 c = ?
+returns-2 c = rw (ne-eqb ((c .before .before .before .before .args) .n) 0 ((c .before .before .before .if1) .left), sym ((c .before .before .is-negative) .ensures) ∙ (c .before .if2) .taken, (c .wrapping-neg) .ensures)
 
--- src/sub.rt:25:20
 enum-known-e : tie.Need-enum-known-e
 enum-known-e c = search needs
 
--- src/sub.rt:25:26
 moved-requires : tie.Need-moved-requires
 moved-requires c κs = search needs
 
--- src/sub.rt:27:21
 enum-known-e-2 : tie.Need-enum-known-e-2
 enum-known-e-2 c = search needs
 
--- src/sub.rt:27:55
 wrapping-add-requires : tie.Need-wrapping-add-requires
 wrapping-add-requires c κs = search needs
 
--- src/sub.rt:28:30
 enum-told : tie.Need-enum-told
 enum-told c = search needs
 
--- src/sub.rt:29:27
 enum-told-2 : tie.Need-enum-told-2
 enum-told-2 c = search needs
 
--- src/sub.rt:30:31
 enum-told-3 : tie.Need-enum-told-3
 enum-told-3 c = search needs
 
--- src/sub.rt:31:24
 enum-told-4 : tie.Need-enum-told-4
 enum-told-4 c = search needs
 
--- src/sub.rt:12:1
 returns-3 : tie.Need-returns-3
-returns-3 c = ?
+returns-3 c = rw (ne-eqb ((c .before .before .before .before .before .before .before .args) .n) 0 ((c .before .before .before .before .before .before .if1) .left), sym ((c .before .before .before .before .before .is-negative) .ensures) ∙ (c .before .before .before .before .if2) .left, (c .before .before .e) .given .1) ((c .moved) .ensures)
 
--- src/sub.rt:12:1
 returns-4 : tie.Need-returns-4
-returns-4 c = ?
+returns-4 c = rw (ne-eqb ((c .before .before .before .before .before .before .before .args) .n) 0 ((c .before .before .before .before .before .before .if1) .left), sym ((c .before .before .before .before .before .is-negative) .ensures) ∙ (c .before .before .before .before .if2) .left, (c .before .before .e2) .given .1, (c .wrapping-add) .ensures)
 
--- src/sub.rt:12:1
 returns-5 : tie.Need-returns-5
-returns-5 c = ?
+returns-5 c = rw (ne-eqb ((c .before .before .before .before .before .args) .n) 0 ((c .before .before .before .before .if1) .left), sym ((c .before .before .before .is-negative) .ensures) ∙ (c .before .before .if2) .left, (c .enum-told) .given .1)
 
--- src/sub.rt:12:1
 returns-6 : tie.Need-returns-6
-returns-6 c = ?
+returns-6 c = rw (ne-eqb ((c .before .before .before .before .before .args) .n) 0 ((c .before .before .before .before .if1) .left), sym ((c .before .before .before .is-negative) .ensures) ∙ (c .before .before .if2) .left, (c .enum-told2) .given .1)
 
--- src/sub.rt:12:1
 returns-7 : tie.Need-returns-7
-returns-7 c = ?
+returns-7 c = rw (ne-eqb ((c .before .before .before .before .before .args) .n) 0 ((c .before .before .before .before .if1) .left), sym ((c .before .before .before .is-negative) .ensures) ∙ (c .before .before .if2) .left, (c .enum-told3) .given .1)
 
--- src/sub.rt:12:1
 returns-8 : tie.Need-returns-8
-returns-8 c = ?
+returns-8 c = rw (ne-eqb ((c .before .before .before .before .before .args) .n) 0 ((c .before .before .before .before .if1) .left), sym ((c .before .before .before .is-negative) .ensures) ∙ (c .before .before .if2) .left, (c .enum-told4) .given .1)
 
 pub sub-beside-spec : {M : Type 1} → statement M
 sub-beside-spec =

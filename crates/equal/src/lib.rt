@@ -1,0 +1,88 @@
+// Whether two trees of an arena are equal, wherever they lie.
+ghost use mathlib.Core.Path.{_≡_};
+ghost use Prim.Native.Nat.{_+_, _*_, _<_};
+ghost use lib.ListN.{length};
+ghost use Rattle.tree.specs.Tree.{same as sameTree};
+ghost use Rattle.arena.specs.Live.{Live, treeOf};
+ghost use Rattle.format.specs.Kinds.{kindCount};
+ghost use Rattle.format.specs.Header.{kindOf};
+ghost use Rattle.format.specs.Limits.{nodeWords, headerAt, payloadAt};
+ghost use Rattle.equal.specs.Alike.{labelOf, alikeAt, ChildrenOf};
+use words::NODE_WORDS;
+use words::fields;
+use words::kinds;
+
+// How many children a node has, and their indices.
+pub struct Children {
+    pub arity: u8,
+    pub left: usize,
+    pub right: usize,
+}
+
+fn header_at(words: &[u64], i: usize) -> u64
+    requires { ⌜ nodeWords * i + 1 < length (now words) ⌝ }
+    ensures { λ r. ⌜ r ≡ headerAt (now (words .entry)) i ⌝ }
+{
+    words[NODE_WORDS * i]
+}
+
+fn payload_at(words: &[u64], i: usize) -> u64
+    requires { ⌜ nodeWords * i + 1 < length (now words) ⌝ }
+    ensures { λ r. ⌜ r ≡ payloadAt (now (words .entry)) i ⌝ }
+{
+    words[NODE_WORDS * i + 1]
+}
+
+// A header without its children: kind, size and space.
+fn label(word: u64) -> u64
+    ensures { λ r. ⌜ r ≡ labelOf word ⌝ }
+{
+    let kind = fields::kind_of(word) as u64;
+    fields::pack(kind, fields::size_of(word), 0, 0, fields::space_of(word))
+}
+
+// Whether two nodes agree in all but their children, whose indices may differ between equal trees.
+fn alike(words: &[u64], i: usize, j: usize) -> bool
+    requires { ⌜ (nodeWords * i + 1 < length (now words)) × (nodeWords * j + 1 < length (now words)) ⌝ }
+    ensures { λ r. ⌜ r ≡ alikeAt (now (words .entry)) i j ⌝ }
+{
+    if label(header_at(words, i)) == label(header_at(words, j)) {
+        return payload_at(words, i) == payload_at(words, j);
+    }
+    false
+}
+
+fn children_at(words: &[u64], i: usize) -> Children
+    requires { ⌜ (nodeWords * i + 1 < length (now words)) × (kindOf (headerAt (now words) i) < kindCount) ⌝ }
+    ensures { λ r. ⌜ ChildrenOf (headerAt (now (words .entry)) i) r ⌝ }
+{
+    let word = header_at(words, i);
+    let row = kinds::row_of(fields::kind_of(word));
+    Children {
+        arity: row.arity,
+        left: fields::left_of(word),
+        right: fields::right_of(word),
+    }
+}
+
+pub fn same(words: &[u64], count: usize, i: usize, j: usize) -> bool
+    requires { ⌜ Live (now words) count ⌝ }
+    requires { ⌜ (i < count) × (j < count) ⌝ }
+    ensures { λ r. ⌜ r ≡ sameTree (treeOf count (now (words .entry)) i) (treeOf count (now (words .entry)) j) ⌝ }
+{
+    if !alike(words, i, j) {
+        return false;
+    }
+    let a = children_at(words, i);
+    let b = children_at(words, j);
+    if a.arity == 0 {
+        return true;
+    }
+    if !same(words, count, a.left, b.left) {
+        return false;
+    }
+    if a.arity == 1 {
+        return true;
+    }
+    same(words, count, a.right, b.right)
+}
