@@ -1,6 +1,7 @@
 // What the rules see and decide: the types that the definitions in specs/ and the code share.
 use format::Bin;
 use format::Un;
+use tree::Verdict;
 
 // What a rule sees of a simplified child: a constant, e + #a, e - #a, -e, e sign-extended to some bytes, or anything else.
 pub enum View {
@@ -54,4 +55,11 @@ pub enum Act {
     Make(u64),
     Redo(Bin, Near, u64),
     RedoUnary(Un, Near),
+}
+
+// Of simplify: the new root and count, or the check's refusal, or 7.
+pub enum Simplified {
+    Done(usize, usize),
+    Refused(Verdict),
+    NoRoom,
 }
