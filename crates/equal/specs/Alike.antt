@@ -1,5 +1,5 @@
 -- What the words of two nodes say of whether their trees are equal. Assumes nothing: these are definitions.
-use mathlib.Core.Bool.{Bool, _&&_, _||_}
+use mathlib.Core.Bool.{Bool, _&&_}
 use mathlib.Core.List.{List}
 use mathlib.Core.Path.{_≡_}
 use Prim.Native.Nat.{ℕ}
@@ -15,14 +15,11 @@ labelOf word = header (kindOf word) (sizeOf word) 0 0 (spaceOf word)
 
 -- whether nodes i and j agree in all but their children
 abbrev pub alikeAt : List ℕ → (i j : ℕ) → Bool
-alikeAt words i j = eqb (labelOf (headerAt words i)) (labelOf (headerAt words j)) && eqb (payloadAt words i) (payloadAt words j)
+alikeAt words i j =
+    eqb (labelOf (headerAt words i)) (labelOf (headerAt words j)) && eqb (payloadAt words i) (payloadAt words j)
 
 -- the children that a header names
 pub record ChildrenOf (word : ℕ) (children : Children) : Type 0 where
   pub arity-is : children .arity ≡ rowOf (kindOf word) .arity
   pub left-is : children .left ≡ leftOf word
   pub right-is : children .right ≡ rightOf word
-
--- whether as many children as there are agree
-abbrev pub sameChildren : (arity : ℕ) → (left right : Bool) → Bool
-sameChildren arity left right = eqb arity 0 || (left && (eqb arity 1 || right))

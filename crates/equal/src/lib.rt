@@ -2,21 +2,21 @@
 ghost use mathlib.Core.Path.{_≡_};
 ghost use Prim.Native.Nat.{_+_, _*_, _<_};
 ghost use lib.ListN.{length};
+ghost use Rattle.format.specs.Header.{kindOf};
+ghost use Rattle.format.specs.Kinds.{kindCount};
+ghost use Rattle.format.specs.Limits.{nodeWords, headerAt, payloadAt};
 ghost use Rattle.tree.specs.Tree.{same as sameTree};
 ghost use Rattle.arena.specs.Live.{Live, treeOf};
-ghost use Rattle.format.specs.Kinds.{kindCount};
-ghost use Rattle.format.specs.Header.{kindOf};
-ghost use Rattle.format.specs.Limits.{nodeWords, headerAt, payloadAt};
 ghost use Rattle.equal.specs.Alike.{labelOf, alikeAt, ChildrenOf};
 use words::NODE_WORDS;
 use words::fields;
 use words::kinds;
 
-// How many children a node has, and their indices.
-pub struct Children {
-    pub arity: u8,
-    pub left: usize,
-    pub right: usize,
+// How many children a node has, and where they are.
+struct Children {
+    arity: u8,
+    left: usize,
+    right: usize,
 }
 
 fn header_at(words: &[u64], i: usize) -> u64
@@ -33,7 +33,7 @@ fn payload_at(words: &[u64], i: usize) -> u64
     words[NODE_WORDS * i + 1]
 }
 
-// A header without its children: kind, size and space.
+// A header without its children: kind, size and space, compared as one word.
 fn label(word: u64) -> u64
     ensures { λ r. ⌜ r ≡ labelOf word ⌝ }
 {
@@ -81,8 +81,8 @@ pub fn same(words: &[u64], count: usize, i: usize, j: usize) -> bool
     if !same(words, count, a.left, b.left) {
         return false;
     }
-    if a.arity == 1 {
-        return true;
+    if a.arity == 2 {
+        return same(words, count, a.right, b.right);
     }
-    same(words, count, a.right, b.right)
+    true
 }

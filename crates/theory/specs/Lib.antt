@@ -11,3 +11,4 @@ pub mod Keeps
 pub mod BinValues
 pub mod UnValues
 pub mod Values
+pub mod Visits

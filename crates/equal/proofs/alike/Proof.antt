@@ -24,12 +24,24 @@ payload-at-requires-2 c κs = search needs
 
 returns : tie.Need-returns
 returns c =
-    rw (← (c .before .before .before .before .before .before .header-at) .ensures, ← (c .before .before .before .before .header-at2) .ensures, ← (c .before .before .before .before .before .label) .ensures, ← (c .before .before .before .label2) .ensures, eq-eqb _ _ ((c .before .before .if1) .taken))
-    (rw ((c .before .payload-at) .ensures, (c .payload-at2) .ensures))
+    rw (
+      ← c .before .before .before .before .before .before .header-at .ensures,
+      ← c .before .before .before .before .header-at2 .ensures,
+      ← c .before .before .before .before .before .label .ensures,
+      ← c .before .before .before .label2 .ensures,
+      eq-eqb _ _ (c .before .before .if1 .taken),
+    )
+    (rw (c .before .payload-at .ensures, c .payload-at2 .ensures))
 
 returns-2 : tie.Need-returns-2
 returns-2 c =
-    rw (← (c .before .before .before .before .header-at) .ensures, ← (c .before .before .header-at2) .ensures, ← (c .before .before .before .label) .ensures, ← (c .before .label2) .ensures, ne-eqb _ _ ((c .if1) .left))
+    rw (
+      ← c .before .before .before .before .header-at .ensures,
+      ← c .before .before .header-at2 .ensures,
+      ← c .before .before .before .label .ensures,
+      ← c .before .label2 .ensures,
+      ne-eqb _ _ (c .if1 .left),
+    )
 
 pub alike-spec : {M : Type 1} → statement M
 alike-spec =

@@ -20,8 +20,12 @@ right-of-requires c κs = search needs
 
 returns : tie.Need-returns
 returns c =
-    rw (← (c .before .before .before .before .header-at) .ensures)
-    record { arity-is = rw (← (c .before .before .before .kind-of) .ensures, (c .before .before .row-of) .ensures); left-is = (c .before .left-of) .ensures; right-is = (c .right-of) .ensures }
+    rw (← c .before .before .before .before .header-at .ensures)
+    record {
+      arity-is = rw (← c .before .before .before .kind-of .ensures, c .before .before .row-of .ensures);
+      left-is = c .before .left-of .ensures;
+      right-is = c .right-of .ensures;
+    }
 
 pub children-at-spec : {M : Type 1} → statement M
 children-at-spec =

@@ -1,15 +1,15 @@
--- Trees are equal exactly where their nodes are alike and their children's trees are equal. Assumes nothing.
-use mathlib.Core.Bool.{Bool, true, false, _&&_}
+-- Two trees are equal exactly where their nodes are alike and their children's trees are equal. Assumes nothing.
+use mathlib.Core.Bool.{Bool, true, false, not, _&&_, _||_}
 use mathlib.Core.List.{List}
 use mathlib.Core.Path.{_≡_, refl, ap, ap₂, sym, _∙_}
 use Prim.Native.Nat.{ℕ, _≤_, _<_}
 use native.Mathlib.Decide.{decLt}
 use native.Mathlib.Omega.{arith}
 use lib.Dec.{eqb}
-use borrow.Author.Tests.{eq-eqb}
+use borrow.Author.Tests.{eq-eqb, eqb-true}
 use Rattle.arena.specs.Live.{Live, Good, treeOf}
 use Rattle.arena.specs.LiveLaws.{tree-of-node, below-at}
-use Rattle.equal.specs.Alike.{labelOf, alikeAt, ChildrenOf, sameChildren}
+use Rattle.equal.specs.Alike.{labelOf, alikeAt, ChildrenOf}
 use Rattle.equal.specs.declared.Children.{Children}
 use Rattle.format.specs.Header.{header, kindOf, sizeOf, leftOf, rightOf, spaceOf, InFields, fields-of-header}
 use Rattle.format.specs.KindRules.{arityOf, row-ruled, un-number-known, bin-number-known}
@@ -17,7 +17,7 @@ use Rattle.format.specs.Kinds.{kindCount, rowOf, shapeOf, unNumber, binNumber}
 use Rattle.format.specs.Limits.{headerAt, payloadAt}
 use Rattle.format.specs.Nodes.{nodeOf, shaped, headerOf, payloadOf, Narrow}
 use Rattle.format.specs.NodesOfWords.{node-of-unknown, field-narrow, narrow-of-words}
-use Rattle.format.specs.Truth.{and-left, and-right, not-both, eqb-same, eqb-equal}
+use Rattle.format.specs.Truth.{and-left, and-right, not-both}
 use Rattle.format.specs.declared.Node.{Node}
 use Rattle.format.specs.declared.Shape.{Shape}
 use Rattle.tree.specs.Arena.{nodeAt, build, Below}
@@ -31,26 +31,26 @@ label-of-header kind size left right space h =
     let f = fields-of-header kind size left right space h in
     rw (f .kind-is, f .size-is, f .space-is)
 
-label-in-fields : (word : ℕ) → InFields (kindOf word) (sizeOf word) 0 0 (spaceOf word)
-label-in-fields word = omega (arith, field-narrow word 56 8, field-narrow word 48 8, field-narrow word 0 16)
-
-record Labelled (word word′ : ℕ) : Type 0 where
+record Agree (word word′ : ℕ) : Type 0 where
   kind : kindOf word ≡ kindOf word′
   size : sizeOf word ≡ sizeOf word′
   space : spaceOf word ≡ spaceOf word′
 
--- a label is known by its three fields
-labelled : (word word′ : ℕ) → labelOf word ≡ labelOf word′ → Labelled word word′
-labelled word word′ e =
-    let f = fields-of-header (kindOf word) (sizeOf word) 0 0 (spaceOf word) (label-in-fields word) in
-    let g = fields-of-header (kindOf word′) (sizeOf word′) 0 0 (spaceOf word′) (label-in-fields word′) in
+label-narrow : (word : ℕ) → InFields (kindOf word) (sizeOf word) 0 0 (spaceOf word)
+label-narrow word = omega (arith, field-narrow word 56 8, field-narrow word 48 8, field-narrow word 0 16)
+
+-- equal labels have equal fields
+agree : (word word′ : ℕ) → labelOf word ≡ labelOf word′ → Agree word word′
+agree word word′ e =
+    let f = fields-of-header (kindOf word) (sizeOf word) 0 0 (spaceOf word) (label-narrow word) in
+    let g = fields-of-header (kindOf word′) (sizeOf word′) 0 0 (spaceOf word′) (label-narrow word′) in
     record {
       kind = sym (f .kind-is) ∙ ap kindOf e ∙ g .kind-is;
       size = sym (f .size-is) ∙ ap sizeOf e ∙ g .size-is;
       space = sym (f .space-is) ∙ ap spaceOf e ∙ g .space-is;
     }
 
--- EQUAL TREES ARE ALIKE
+-- A TREE SHOWS ITS NODE'S LABEL AND PAYLOAD
 
 -- a tree's node, without its children
 abbrev root : Tree → Node
@@ -67,7 +67,8 @@ module _ (tree : ℕ → Tree) where
   label-of-node (Node.Entry size space offset) h = sym (label-of-header 1 size 0 0 space (omega arith))
   label-of-node (Node.Const size value) h = sym (label-of-header 2 size 0 0 0 (omega arith))
   label-of-node (Node.Bind size id) h = sym (label-of-header 3 size 0 0 0 (omega arith))
-  label-of-node (Node.Unary op size left) h = sym (label-of-header (unNumber op) size left 0 0 (omega (arith, un-number-known op)))
+  label-of-node (Node.Unary op size left) h =
+      sym (label-of-header (unNumber op) size left 0 0 (omega (arith, un-number-known op)))
   label-of-node (Node.Binary op size left right) h =
       sym (label-of-header (binNumber op) size left right 0 (omega (arith, bin-number-known op)))
 
@@ -79,14 +80,18 @@ module _ (tree : ℕ → Tree) where
   payload-of-node (Node.Unary op size left) = refl
   payload-of-node (Node.Binary op size left right) = refl
 
--- ALIKE NODES HAVE EQUAL TREES IF THEIR CHILDREN DO
+-- NODES OF ONE SHAPE
 
--- a truth value that decides whether two trees are equal is `same` of them
+-- whether as many children as there are agree
+abbrev pub sameChildren : (arity : ℕ) → (left right : Bool) → Bool
+sameChildren arity left right = eqb arity 0 || (left && (not (eqb arity 2) || right))
+
+-- `same` is any truth value that decides whether two trees are equal
 same-by : (a b : Tree) (decided : Bool) → (a ≡ b → decided ≡ true) → (decided ≡ true → a ≡ b) → same a b ≡ decided
 same-by a b true to from = same-yes a b (from refl)
 same-by a b false to from = same-no a b (λ e. not-both (to e) refl)
 
-module _ (tree : ℕ → Tree) (word word′ payload : ℕ) (size : sizeOf word ≡ sizeOf word′) (space : spaceOf word ≡ spaceOf word′) where
+module _ (tree : ℕ → Tree) (word word′ payload : ℕ) (agreed : Agree word word′) where
   abbrev left : Tree
   left = tree (leftOf word)
 
@@ -111,19 +116,10 @@ module _ (tree : ℕ → Tree) (word word′ payload : ℕ) (size : sizeOf word 
       (λ e. cc (same-eq left left′ (and-left (same left left′) true e)))
   same-shaped (Shape.Binary op) =
       same-by _ _ (same left left′ && same right right′) (λ e. rw (same-yes left left′ (cc), same-yes right right′ (cc)))
-      (λ e. cc (same-eq left left′ (and-left (same left left′) (same right right′) e), same-eq right right′ (and-right (same left left′) (same right right′) e)))
-
--- NODES OF A LIVE ARENA
-
--- the kind is one of the table: an unknown one reads as Top, whose header has kind 0
-pub kind-known : {words : List ℕ} {i : ℕ} → Good words i → kindOf (headerAt words i) < kindCount
-kind-known {words} {i} g = go (decLt (kindOf (headerAt words i)) kindCount)
-  where
-    go : Dec (kindOf (headerAt words i) < kindCount) → kindOf (headerAt words i) < kindCount
-    go (yes p) = p
-    go (no p) =
-        let unknown : nodeAt words i ≡ Node.Top = node-of-unknown (headerAt words i) (payloadAt words i) (omega arith) in
-        omega (arith, ap kindOf (sym (g .header-is) ∙ ap headerOf unknown))
+      (λ e. cc (
+        same-eq left left′ (and-left (same left left′) (same right right′) e),
+        same-eq right right′ (and-right (same left left′) (same right right′) e),
+      ))
 
 children-below : (i word payload : ℕ) (shape : Shape) → Below i (shaped shape word payload) →
     (1 ≤ arityOf shape → leftOf word < i) × (2 ≤ arityOf shape → rightOf word < i)
@@ -133,6 +129,18 @@ children-below i word payload Shape.Const b = omega arith
 children-below i word payload Shape.Bind b = omega arith
 children-below i word payload (Shape.Unary op) b = omega arith
 children-below i word payload (Shape.Binary op) b = omega arith
+
+-- NODES OF A LIVE ARENA
+
+-- an unknown kind would read as Top, whose header has kind 0
+pub kind-known : {words : List ℕ} {i : ℕ} → Good words i → kindOf (headerAt words i) < kindCount
+kind-known {words} {i} good = go (decLt (kindOf (headerAt words i)) kindCount)
+  where
+    go : Dec (kindOf (headerAt words i) < kindCount) → kindOf (headerAt words i) < kindCount
+    go (yes p) = p
+    go (no p) =
+        let unknown : nodeAt words i ≡ Node.Top = node-of-unknown (headerAt words i) (payloadAt words i) (omega arith) in
+        omega (arith, ap kindOf (sym (good .header-is) ∙ ap headerOf unknown))
 
 module _ {words : List ℕ} {count : ℕ} (live : Live words count) where
   abbrev tree : ℕ → Tree
@@ -162,7 +170,7 @@ module _ {words : List ℕ} {count : ℕ} (live : Live words count) where
       same (treeOf count words i) (treeOf count words j) ≡ false
   unlike-differ i j hi hj u = same-no _ _ (λ e. not-both (equal-alike i j hi hj e) u)
 
--- nodes i and j of a live arena that are alike, and their children a and b
+-- alike nodes i and j of a live arena, with their children a and b
 pub record Matched (words : List ℕ) (count i j : ℕ) (a b : Children) : Type 0 where
   pub live : Live words count
   pub i-inside : i < count
@@ -172,51 +180,62 @@ pub record Matched (words : List ℕ) (count i j : ℕ) (a b : Children) : Type 
   pub j-children : ChildrenOf (headerAt words j) b
 
 module _ {words : List ℕ} {count i j : ℕ} {a b : Children} (m : Matched words count i j a b) where
+  abbrev word : ℕ
+  word = headerAt words i
+
+  abbrev word′ : ℕ
+  word′ = headerAt words j
+
   abbrev labels : Bool
-  labels = eqb (labelOf (headerAt words i)) (labelOf (headerAt words j))
+  labels = eqb (labelOf word) (labelOf word′)
 
   abbrev payloads : Bool
   payloads = eqb (payloadAt words i) (payloadAt words j)
 
-  agree : Labelled (headerAt words i) (headerAt words j)
-  agree = labelled _ _ (eqb-equal _ _ (and-left labels payloads (m .alike)))
+  agreed : Agree word word′
+  agreed = agree word word′ (eqb-true _ _ (and-left labels payloads (m .alike)))
 
   payload : payloadAt words i ≡ payloadAt words j
-  payload = eqb-equal _ _ (and-right labels payloads (m .alike))
+  payload = eqb-true _ _ (and-right labels payloads (m .alike))
 
+  -- both nodes have the first one's shape
   abbrev shape : Shape
-  shape = shapeOf (kindOf (headerAt words i))
+  shape = shapeOf (kindOf word)
 
   arity-is : a .arity ≡ arityOf shape
-  arity-is = m .i-children .arity-is ∙ row-ruled (kindOf (headerAt words i)) (kind-known (m .live .good i (m .i-inside))) .arity-is
+  arity-is = m .i-children .arity-is ∙ row-ruled (kindOf word) (kind-known (m .live .good i (m .i-inside))) .arity-is
 
-  node-i : nodeAt words i ≡ shaped shape (headerAt words i) (payloadAt words i)
+  node-i : nodeAt words i ≡ shaped shape word (payloadAt words i)
   unfolding nodeOf
   node-i = refl
 
-  node-j : nodeAt words j ≡ shaped shape (headerAt words j) (payloadAt words i)
+  node-j : nodeAt words j ≡ shaped shape word′ (payloadAt words i)
   unfolding nodeOf
-  node-j = ap₂ (λ (k p : ℕ). shaped (shapeOf k) (headerAt words j) p) (sym (agree .kind)) (sym payload)
+  node-j = ap₂ (λ (kind p : ℕ). shaped (shapeOf kind) word′ p) (sym (agreed .kind)) (sym payload)
 
-  below-i : (1 ≤ arityOf shape → leftOf (headerAt words i) < i) × (2 ≤ arityOf shape → rightOf (headerAt words i) < i)
-  below-i = children-below i _ _ shape (below-at (m .live) i (m .i-inside) _ node-i)
+  below-i : (1 ≤ arityOf shape → leftOf word < i) × (2 ≤ arityOf shape → rightOf word < i)
+  below-i = children-below i word (payloadAt words i) shape (below-at (m .live) i (m .i-inside) _ node-i)
 
-  below-j : (1 ≤ arityOf shape → leftOf (headerAt words j) < j) × (2 ≤ arityOf shape → rightOf (headerAt words j) < j)
-  below-j = children-below j _ _ shape (below-at (m .live) j (m .j-inside) _ node-j)
+  below-j : (1 ≤ arityOf shape → leftOf word′ < j) × (2 ≤ arityOf shape → rightOf word′ < j)
+  below-j = children-below j word′ (payloadAt words i) shape (below-at (m .live) j (m .j-inside) _ node-j)
 
   pub left-below : (a .arity ≡ 0 → ⊥) → (a .left < i) × (b .left < j)
   left-below some =
       let one : 1 ≤ arityOf shape = omega (arith, arity-is) in
       omega (arith, below-i .0 one, below-j .0 one)
 
-  pub right-below : (a .arity ≡ 0 → ⊥) → (a .arity ≡ 1 → ⊥) → (a .right < i) × (b .right < j)
-  right-below some more =
-      let two : 2 ≤ arityOf shape = omega (arith, arity-is) in
-      omega (arith, below-i .1 two, below-j .1 two)
+  pub both-below : a .arity ≡ 2 → (a .left < i) × (a .right < i) × (b .left < j) × (b .right < j)
+  both-below two =
+      let left : (a .left < i) × (b .left < j) = left-below (omega arith) in
+      let more : 2 ≤ arityOf shape = omega (arith, arity-is) in
+      omega (arith, below-i .1 more, below-j .1 more)
 
-  pub alike-same : same (treeOf count words i) (treeOf count words j)
-      ≡ sameChildren (a .arity) (same (treeOf count words (a .left)) (treeOf count words (b .left))) (same (treeOf count words (a .right)) (treeOf count words (b .right)))
+  pub alike-same :
+      same (treeOf count words i) (treeOf count words j)
+      ≡ sameChildren (a .arity)
+      (same (treeOf count words (a .left)) (treeOf count words (b .left)))
+      (same (treeOf count words (a .right)) (treeOf count words (b .right)))
   alike-same =
       rw (arity-is, m .i-children .left-is, m .j-children .left-is, m .i-children .right-is, m .j-children .right-is)
       (ap₂ same (tree-of-node (m .live) i (m .i-inside) _ node-i) (tree-of-node (m .live) j (m .j-inside) _ node-j)
-      ∙ same-shaped (treeOf count words) _ _ _ (agree .size) (agree .space) shape)
+      ∙ same-shaped (treeOf count words) word word′ (payloadAt words i) agreed shape)

@@ -1,0 +1,58 @@
+-- The invariant: the scan from the node that is reached gives the verdict on all. Each node passed brings the count nearer. Assumes nothing.
+use borrow.Author.Needs.{needs}
+use Prim.Native.Nat.{_-_, _≤_, zero-le}
+use mathlib.Core.Path.{_≡_, sym, _∙_}
+use native.Mathlib.Nat.{sub-zero}
+use native.Mathlib.Omega.{arith}
+use Rattle.formed.specs.Scan.{scan-ends, scan-goes-on}
+use Rattle.form.proofs.Refused.{refused}
+use Rattle.tree.specs.Form.{scanned}
+use Rattle.form.proofs.scan.Statement.{statement}
+use Rattle.form.proofs.scan.Tie as tie
+
+abbrev Inv-loop : tie.InvT-loop
+Inv-loop words count i₀ i = (i ≤ count) × (scanned words count 0 ≡ scanned words (count - i) i)
+
+abbrev μ-loop : tie.MeasureT-loop
+μ-loop words count i₀ i = count - i
+
+loop-holds : tie.Need-loop-holds Inv-loop μ-loop
+loop-holds c = (zero-le, rw sub-zero)
+
+judge-requires : tie.Need-judge-requires Inv-loop μ-loop
+judge-requires c κs = omega arith
+
+enum-told : tie.Need-enum-told Inv-loop μ-loop
+enum-told c = search needs
+
+add-i : tie.Need-add-i Inv-loop μ-loop
+add-i c = omega arith
+
+loop-less : tie.Need-loop-less Inv-loop μ-loop
+loop-less c = omega arith
+
+loop-again : tie.Need-loop-again Inv-loop μ-loop
+loop-again c =
+    (omega arith, c .before .before .before .before .loop .inv .1 ∙ scan-goes-on _ _ _ (c .before .before .before .if1 .left) ∙ rw (sym (c .before .before .judge .ensures) ∙ c .enum-told .given .1))
+
+returns : tie.Need-returns Inv-loop μ-loop
+returns c = sym (c .before .loop .inv .1 ∙ scan-ends _ _ _ (c .if1 .taken))
+
+returns-2 : tie.Need-returns-2 Inv-loop μ-loop
+returns-2 c =
+    sym (c .before .before .before .loop .inv .1 ∙ scan-goes-on _ _ _ (c .before .before .if1 .left) ∙ rw (sym (c .before .judge .ensures)) (refused _ _ (c .match .keys2)))
+
+pub scan-spec : {M : Type 1} → statement M
+scan-spec =
+    tie.close
+    (tie.spec
+    Inv-loop
+    μ-loop
+    loop-holds
+    judge-requires
+    enum-told
+    add-i
+    loop-less
+    loop-again
+    returns
+    returns-2)

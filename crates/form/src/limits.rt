@@ -1,0 +1,96 @@
+// The limits of the tree under a root. A shared node counts once for every way that it is reached.
+ghost use mathlib.Core.Path.{_≡_};
+ghost use Prim.Native.Nat.{_+_, _*_, _<_};
+ghost use lib.Dec.{leb};
+ghost use lib.ListN.{length};
+ghost use Rattle.arena.specs.Live.{treeOf};
+ghost use Rattle.form.specs.Budget.{spent};
+ghost use Rattle.form.specs.Children.{childrenOf, Within};
+ghost use Rattle.format.specs.Limits.{nodeWords};
+ghost use Rattle.tree.specs.Arena.{nodeAt};
+ghost use Rattle.tree.specs.Form.{limited};
+ghost use Rattle.tree.specs.Tree.{nodes, path};
+use format::Node;
+use tree::Verdict;
+use words::MAX_PATH;
+use words::MAX_UNFOLDED;
+
+// The children of a node: all that the limits look at.
+pub enum Children {
+    None,
+    One(usize),
+    Two(usize, usize),
+}
+
+// What is left of a number of nodes.
+pub enum Budget {
+    Left(u64),
+    Over,
+}
+
+fn children_at(words: &[u64], i: usize) -> Children
+    requires { ⌜ nodeWords * i + 1 < length (now words) ⌝ }
+    ensures { λ r. ⌜ r ≡ childrenOf (nodeAt (now (words .entry)) i) ⌝ }
+{
+    match arena::node_at(words, i) {
+        Node::Top => Children::None,
+        Node::Entry(_, _, _) => Children::None,
+        Node::Const(_, _) => Children::None,
+        Node::Bind(_, _) => Children::None,
+        Node::Unary(_, _, left) => Children::One(left),
+        Node::Binary(_, _, left, right) => Children::Two(left, right),
+    }
+}
+
+// A budget, less the nodes of the tree under i. No more of them are visited than the budget has, and one.
+fn spend(words: &[u64], count: usize, i: usize, budget: u64) -> Budget
+    requires { ⌜ Within (now words) count i ⌝ }
+    ensures { λ r. ⌜ r ≡ spent budget (nodes (treeOf count (now (words .entry)) i)) ⌝ }
+{
+    if budget == 0 {
+        return Budget::Over;
+    }
+    match children_at(words, i) {
+        Children::None => Budget::Left(budget - 1),
+        Children::One(left) => spend(words, count, left, budget - 1),
+        Children::Two(left, right) => match spend(words, count, left, budget - 1) {
+            Budget::Left(rest) => spend(words, count, right, rest),
+            Budget::Over => Budget::Over,
+        },
+    }
+}
+
+// Whether no path from i has more than `most` nodes. Each node of the unfolded tree is visited once at most.
+fn path_within(words: &[u64], count: usize, i: usize, most: u64) -> bool
+    requires { ⌜ Within (now words) count i ⌝ }
+    ensures { λ r. ⌜ r ≡ leb (path (treeOf count (now (words .entry)) i)) most ⌝ }
+{
+    if most == 0 {
+        return false;
+    }
+    match children_at(words, i) {
+        Children::None => true,
+        Children::One(left) => path_within(words, count, left, most - 1),
+        Children::Two(left, right) => {
+            if !path_within(words, count, left, most - 1) {
+                return false;
+            }
+            path_within(words, count, right, most - 1)
+        }
+    }
+}
+
+// The nodes first: where they are too many, no path is walked.
+pub fn within(words: &[u64], count: usize, root: usize) -> Verdict
+    requires { ⌜ Within (now words) count root ⌝ }
+    ensures { λ r. ⌜ r ≡ limited (treeOf count (now (words .entry)) root) ⌝ }
+{
+    if let Budget::Over = spend(words, count, root, MAX_UNFOLDED) {
+        return Verdict::TooManyNodes;
+    }
+    if path_within(words, count, root, MAX_PATH) {
+        Verdict::Passed
+    } else {
+        Verdict::PathTooLong
+    }
+}

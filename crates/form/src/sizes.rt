@@ -1,0 +1,101 @@
+// Well sized: the rule of the node's kind on its size, its payload and its children's sizes.
+ghost use mathlib.Core.Bool.{true};
+ghost use mathlib.Core.Path.{_≡_};
+ghost use Prim.Native.Nat.{_+_, _*_, _^_, _<_};
+ghost use lib.Dec.{ltb};
+ghost use lib.ListN.{length};
+ghost use Rattle.format.specs.Limits.{nodeWords};
+ghost use Rattle.tree.specs.Form.{isSize, sameSize, noWider, oneSize, sized as sizedOf, childSize, wellFormed, wellSized};
+use format::ChildSize;
+use format::Sizing;
+use words::NODE_WORDS;
+
+// Top's number.
+const KIND_TOP: usize = 0;
+
+fn is_size(size: u64) -> bool
+    ensures { λ r. ⌜ r ≡ isSize size ⌝ }
+{
+    (size == 1) | ((size == 2) | ((size == 4) | (size == 8)))
+}
+
+fn same_size(size: u64, child: ChildSize) -> bool
+    ensures { λ r. ⌜ r ≡ sameSize size child ⌝ }
+{
+    match child {
+        ChildSize::Absent => true,
+        ChildSize::Bytes(bytes) => bytes == size,
+    }
+}
+
+fn no_wider(size: u64, child: ChildSize) -> bool
+    ensures { λ r. ⌜ r ≡ noWider size child ⌝ }
+{
+    match child {
+        ChildSize::Absent => true,
+        ChildSize::Bytes(bytes) => bytes <= size,
+    }
+}
+
+fn one_size(left: ChildSize, right: ChildSize) -> bool
+    ensures { λ r. ⌜ r ≡ oneSize left right ⌝ }
+{
+    match left {
+        ChildSize::Absent => true,
+        ChildSize::Bytes(bytes) => same_size(bytes, right),
+    }
+}
+
+// Whether a value fits `size` bytes. Every word fits eight.
+fn fits(value: u64, size: u64) -> bool
+    ensures { λ r. ⌜ r ≡ ltb value (2 ^ (8 * size)) ⌝ }
+{
+    if 8 <= size {
+        true
+    } else {
+        value < (1 << (8 * size))
+    }
+}
+
+fn sized(sizing: Sizing, size: u64, payload: u64, left: ChildSize, right: ChildSize) -> bool
+    ensures { λ r. ⌜ r ≡ sizedOf sizing size payload left right ⌝ }
+{
+    match sizing {
+        Sizing::Unsized => size == 0,
+        Sizing::Input => is_size(size),
+        Sizing::Constant => is_size(size) & fits(payload, size),
+        Sizing::Same => is_size(size) & (same_size(size, left) & same_size(size, right)),
+        Sizing::Shift => is_size(size) & (same_size(size, left) & no_wider(size, right)),
+        Sizing::Extension => is_size(size) & no_wider(size, left),
+        Sizing::Flag => (size == 1) & one_size(left, right),
+    }
+}
+
+// What the rule sees of a child: nothing of one that the kind does not have, or that is Top.
+fn child_size(words: &[u64], used: bool, child: usize) -> ChildSize
+    requires { ⌜ (used ≡ true → nodeWords * child + 1 < length (now words)) ⌝ }
+    ensures { λ r. ⌜ r ≡ childSize (now (words .entry)) used child ⌝ }
+{
+    if !used {
+        return ChildSize::Absent;
+    }
+    let word = words[NODE_WORDS * child];
+    if words::fields::kind_of(word) == KIND_TOP {
+        return ChildSize::Absent;
+    }
+    ChildSize::Bytes(words::fields::size_of(word))
+}
+
+pub fn well_sized(words: &[u64], i: usize) -> bool
+    requires { ⌜ nodeWords * i + 1 < length (now words) ⌝ }
+    requires { ⌜ wellFormed (now words) i ≡ true ⌝ }
+    ensures { λ r. ⌜ r ≡ wellSized (now (words .entry)) i ⌝ }
+{
+    let word = words[NODE_WORDS * i];
+    let row = words::kinds::row_of(words::fields::kind_of(word));
+    let left = child_size(words, 1 <= row.arity, words::fields::left_of(word));
+    let right = child_size(words, 2 <= row.arity, words::fields::right_of(word));
+    let size = words::fields::size_of(word);
+    let sizing = row.sizing;
+    sized(sizing, size, words[NODE_WORDS * i + 1], left, right)
+}
