@@ -1,0 +1,90 @@
+// The walk from a node into its children, whose index falls: each node of the unfolded tree is visited at most once.
+ghost use mathlib.Core.Path.{_≡_};
+ghost use Prim.Native.Nat.{_+_, _*_, _<_};
+ghost use lib.ListN.{length};
+ghost use Rattle.arena.specs.Live.{Live, treeOf};
+ghost use Rattle.eval.specs.Answers.{Evaluable, inputAnswer, answerAt};
+ghost use Rattle.format.specs.Limits.{nodeWords, headerAt, payloadAt};
+ghost use Rattle.tree.specs.Rows.{found};
+ghost use Rattle.tree.specs.Tree.{size as sizeOf, hasTop};
+use crate::rows;
+use crate::rows::Found;
+use format::Node;
+use words::NODE_WORDS;
+
+// A value, or the index of the first input without a row.
+pub enum Answer {
+    Value(u64),
+    Missing(usize),
+}
+
+// Whether a Top is reached from node i.
+pub fn has_top(words: &[u64], count: usize, i: usize) -> bool
+    requires { ⌜ Live (now words) count ⌝ }
+    requires { ⌜ i < count ⌝ }
+    ensures { λ r. ⌜ r ≡ hasTop (treeOf count (now (words .entry)) i) ⌝ }
+{
+    match arena::node_at(words, i) {
+        Node::Top => true,
+        Node::Entry(_, _, _) => false,
+        Node::Const(_, _) => false,
+        Node::Bind(_, _) => false,
+        Node::Unary(_, _, left) => has_top(words, count, left),
+        Node::Binary(_, _, left, right) => {
+            if has_top(words, count, left) {
+                return true;
+            }
+            has_top(words, count, right)
+        }
+    }
+}
+
+fn size_at(words: &[u64], count: usize, i: usize) -> u64
+    requires { ⌜ Live (now words) count ⌝ }
+    requires { ⌜ i < count ⌝ }
+    ensures { λ r. ⌜ r ≡ sizeOf (treeOf count (now (words .entry)) i) ⌝ }
+{
+    arena::size_of(arena::node_at(words, i))
+}
+
+// An input's value is looked up by its two words.
+fn input_at(words: &[u64], rows: &[u64], i: usize) -> Answer
+    requires { ⌜ nodeWords * i + 1 < length (now words) ⌝ }
+    ensures { λ r. ⌜ r ≡ inputAnswer i (found (now (rows .entry)) (headerAt (now (words .entry)) i) (payloadAt (now (words .entry)) i)) ⌝ }
+{
+    match rows::find(rows, words[NODE_WORDS * i], words[NODE_WORDS * i + 1]) {
+        Found::At(value) => Answer::Value(value),
+        Found::Nothing => Answer::Missing(i),
+    }
+}
+
+// The value of the tree under node i. Left comes before right, and what is missing ends the walk.
+pub fn value_at(words: &[u64], count: usize, rows: &[u64], i: usize) -> Answer
+    requires { ⌜ Evaluable (now words) count (now rows) i ⌝ }
+    ensures { λ r. ⌜ r ≡ answerAt (now (words .entry)) count (now (rows .entry)) i ⌝ }
+{
+    match arena::node_at(words, i) {
+        Node::Top => Answer::Value(0),
+        Node::Entry(_, _, _) => input_at(words, rows, i),
+        Node::Const(_, value) => Answer::Value(value),
+        Node::Bind(_, _) => input_at(words, rows, i),
+        Node::Unary(op, size, left) => match value_at(words, count, rows, left) {
+            Answer::Value(x) => Answer::Value(values::un_value(
+                op,
+                size,
+                size_at(words, count, left),
+                x,
+            )),
+            Answer::Missing(j) => Answer::Missing(j),
+        },
+        Node::Binary(op, size, left, right) => match value_at(words, count, rows, left) {
+            Answer::Value(x) => match value_at(words, count, rows, right) {
+                Answer::Value(y) => {
+                    Answer::Value(values::bin_value(op, size, size_at(words, count, left), x, y))
+                }
+                Answer::Missing(j) => Answer::Missing(j),
+            },
+            Answer::Missing(j) => Answer::Missing(j),
+        },
+    }
+}
