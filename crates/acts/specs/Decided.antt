@@ -74,6 +74,9 @@ module _ (s c d m n : ℕ) (sp : Size s) (cp : Size c) (hm : m < 2 ^ (8 * c)) (h
   bin-fitting Bin.IntSBorrow e = flag-fitting e
 
 module _ {words : List ℕ} {count : ℕ} (live : Live words count) where
+  pub un-over-size : {op : Un} {s a : ℕ} → UnaryOver words count op s a → Size s
+  un-over-size {op} {s} o = is-size s (un-isSize op s _ _ (o .sized-over))
+
   pub over-size : {op : Bin} {s a b : ℕ} → BinaryOver words count op s a b → Size s
   over-size {op} {s} o = is-size s (bin-isSize op s _ _ (o .sized-over))
 

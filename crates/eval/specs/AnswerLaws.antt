@@ -5,10 +5,10 @@ use mathlib.Core.Option.{Option, some, none}
 use mathlib.Core.Path.{_≡_, refl, ap, ap₂, sym, _∙_}
 use Prim.Native.Nat.{ℕ, _<_}
 use native.Mathlib.Omega.{arith}
-use Rattle.arena.specs.Live.{Live, treeOf}
+use Rattle.arena.specs.Live.{treeOf}
 use Rattle.arena.specs.LiveLaws.{live-ordered, in-arena, tree-of-node, below-at}
 use Rattle.arith.specs.Operands.{Extension}
-use Rattle.eval.specs.Answers.{foundOf, inputAnswer, answered, answerAt, Evaluable}
+use Rattle.eval.specs.Answers.{foundOf, inputAnswer, answered, overOne, overTwo, answerAt, OperandFits, OperandsFit, Evaluable}
 use Rattle.eval.specs.MissingLaws.{missing-eq}
 use Rattle.eval.specs.RowLaws.{assigned-fitting}
 use Rattle.eval.specs.SizedOperands.{unary-operand, binary-operands}
@@ -19,6 +19,7 @@ use Rattle.format.specs.Nodes.{headerOf, payloadOf}
 use Rattle.format.specs.Truth.{or-left, or-right}
 use Rattle.format.specs.declared.Bin.{Bin}
 use Rattle.format.specs.declared.Node.{Node}
+use Rattle.format.specs.declared.Sizing.{Sizing}
 use Rattle.format.specs.declared.Un.{Un}
 use Rattle.tree.specs.Arena.{nodeAt, nodesOf, build}
 use Rattle.tree.specs.ArenaLaws.{at-nodesOf}
@@ -26,19 +27,9 @@ use Rattle.tree.specs.Form.{binSizing, Sized}
 use Rattle.tree.specs.Meaning.{unValue, binValue, value}
 use Rattle.tree.specs.Rows.{found, orZero, assigned, firstOf, unlessFound, missingStep, missing}
 use Rattle.tree.specs.Tree.{Tree, size, hasTop}
-use Rattle.values.specs.Operands.{Fitting as Asked}
+use Rattle.values.specs.Operands.{Fitting}
 
--- A NODE'S ANSWER
-
-abbrev pub overOne : Un → (s c : ℕ) → Answer → Answer
-overOne op s c (Answer.Value x) = Answer.Value (unValue op s c x)
-overOne op s c (Answer.Missing j) = Answer.Missing j
-
--- left before right
-abbrev pub overTwo : Bin → (s c : ℕ) → (left right : Answer) → Answer
-overTwo op s c (Answer.Value x) (Answer.Value y) = Answer.Value (binValue op s c x y)
-overTwo op s c (Answer.Value x) (Answer.Missing j) = Answer.Missing j
-overTwo op s c (Answer.Missing j) right = Answer.Missing j
+-- ANSWERS
 
 -- node i's, given its two words and its children's sizes and answers
 abbrev pub answerStep : (rows : List ℕ) (word payload : ℕ) → (childSize : ℕ → ℕ) (answer : ℕ → Answer) → ℕ → Node → Answer
@@ -94,27 +85,37 @@ module _ (rows : List ℕ) (tree : ℕ → Tree) (miss : ℕ → Option ℕ) whe
   answered-node i (Node.Binary op s left right) word payload h p =
       answered-two op s (size (tree left)) (miss left) (miss right) (value (assigned rows) (tree left)) (value (assigned rows) (tree right))
 
-module _ {words : List ℕ} {count : ℕ} (live : Live words count) (rows : List ℕ) (i : ℕ) (h : i < count) where
+-- OPERANDS
+
+fits-answered : (s c : ℕ) (m : Option ℕ) (x : ℕ) → Extension c s x → OperandFits s c (answered m x)
+fits-answered s c none x fits = fits
+fits-answered s c (some j) x fits = tt
+
+fit-answered : (rule : Sizing) (s c : ℕ) (m n : Option ℕ) (x y : ℕ) → Fitting rule s c x y → OperandsFit rule s c (answered m x) (answered n y)
+fit-answered rule s c none none x y fit = fit
+fit-answered rule s c none (some j) x y fit = tt
+fit-answered rule s c (some j) n x y fit = tt
+
+-- OF AN ARENA
+
+module _ {words : List ℕ} {count : ℕ} {rows : List ℕ} {i : ℕ} (able : Evaluable words count rows i) where
   pub answer-of-node : (node : Node) → nodeAt words i ≡ node →
       answerAt words count rows i
       ≡ answerStep rows (headerAt words i) (payloadAt words i) (λ j. size (treeOf count words j)) (answerAt words count rows) i node
   unfolding answerAt
   answer-of-node node e =
       let arena = nodesOf count words in
-      let good = live .good i h in
+      let live = able .live in
+      let good = live .good i (able .below) in
       ap₂ answered
-      (missing-eq rows arena (live-ordered live) i (in-arena live i h) ∙ ap (missingStep rows (missing rows arena) i) (at-nodesOf count words i h ∙ e))
-      (ap (value (assigned rows)) (tree-of-node live i h node e))
+      (missing-eq rows arena (live-ordered live) i (in-arena live i (able .below))
+      ∙ ap (missingStep rows (missing rows arena) i) (at-nodesOf count words i (able .below) ∙ e))
+      (ap (value (assigned rows)) (tree-of-node live i (able .below) node e))
       ∙ answered-node rows (treeOf count words) (missing rows arena) i node (headerAt words i) (payloadAt words i)
       (ap headerOf (sym e) ∙ good .header-is) (ap payloadOf (sym e) ∙ good .payload-is)
 
--- CHILDREN
+  -- CHILDREN
 
-answered-value : (m : Option ℕ) (v x : ℕ) → answered m v ≡ Answer.Value x → v ≡ x
-answered-value none v x e = cc
-answered-value (some j) v x e = let z : _≡_ {A = ℕ} 0 1 = cc in absurd (omega arith)
-
-module _ {words : List ℕ} {count : ℕ} {rows : List ℕ} {i : ℕ} (able : Evaluable words count rows i) where
   sized-node : (node : Node) → nodeAt words i ≡ node → Sized (build (treeOf count words) node)
   sized-node node e = rw (tree-of-node (able .live) i (able .below) node e) at (able .live .sized i (able .below))
 
@@ -125,17 +126,14 @@ module _ {words : List ℕ} {count : ℕ} {rows : List ℕ} {i : ℕ} (able : Ev
   child-able : (j : ℕ) → j < i → hasTop (treeOf count words j) ≡ false → (j < i) × Evaluable words count rows j
   child-able j b free = (b, record { live = able .live; below = omega (arith, able .below); topless = free; rows-good = able .rows-good })
 
-  value-is : (j x : ℕ) → answerAt words count rows j ≡ Answer.Value x → value (assigned rows) (treeOf count words j) ≡ x
-  unfolding answerAt
-  value-is j x e = answered-value (missing rows (nodesOf count words) j) (value (assigned rows) (treeOf count words j)) x e
-
   module _ (op : Un) (s left : ℕ) (e : nodeAt words i ≡ Node.Unary op s left) where
     pub only-child : (left < i) × Evaluable words count rows left
     only-child = child-able left (below-at (able .live) i (able .below) _ e) (topless-node _ e)
 
-    pub operand-fits : (x : ℕ) → answerAt words count rows left ≡ Answer.Value x → Extension (size (treeOf count words left)) s x
-    operand-fits x is =
-        rw (value-is left x is) at
+    pub operand-fits : OperandFits s (size (treeOf count words left)) (answerAt words count rows left)
+    unfolding answerAt
+    operand-fits =
+        fits-answered s _ (missing rows (nodesOf count words) left) _
         (unary-operand (assigned rows) (assigned-fitting rows (able .rows-good)) op s (treeOf count words left) (sized-node _ e) (topless-node _ e))
 
   module _ (op : Bin) (s left right : ℕ) (e : nodeAt words i ≡ Node.Binary op s left right) where
@@ -146,9 +144,10 @@ module _ {words : List ℕ} {count : ℕ} {rows : List ℕ} {i : ℕ} (able : Ev
     right-child =
         child-able right (below-at (able .live) i (able .below) _ e .1) (or-right (hasTop (treeOf count words left)) _ (topless-node _ e))
 
-    pub operands-fit : (x y : ℕ) → answerAt words count rows left ≡ Answer.Value x → answerAt words count rows right ≡ Answer.Value y →
-        Asked (binSizing op) s (size (treeOf count words left)) x y
-    operands-fit x y is is′ =
-        rw (value-is left x is, value-is right y is′) at
+    pub operands-fit :
+        OperandsFit (binSizing op) s (size (treeOf count words left)) (answerAt words count rows left) (answerAt words count rows right)
+    unfolding answerAt
+    operands-fit =
+        fit-answered (binSizing op) s _ (missing rows (nodesOf count words) left) (missing rows (nodesOf count words) right) _ _
         (binary-operands (assigned rows) (assigned-fitting rows (able .rows-good)) op s (treeOf count words left) (treeOf count words right)
         (sized-node _ e) (topless-node _ e))

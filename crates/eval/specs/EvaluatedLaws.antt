@@ -1,8 +1,8 @@
 -- Evaluation past the check, answer by answer. Assumes nothing.
-use mathlib.Core.Bool.{Bool, true, false}
+use mathlib.Core.Bool.{true, false}
 use mathlib.Core.List.{List}
 use mathlib.Core.Option.{Option, some, none}
-use mathlib.Core.Path.{_≡_, refl, sym, ap, _∙_}
+use mathlib.Core.Path.{_≡_, refl}
 use Prim.Native.Nat.{ℕ}
 use native.Mathlib.Omega.{arith}
 use Rattle.arena.specs.Live.{treeOf}
@@ -10,8 +10,8 @@ use Rattle.eval.specs.Answers.{placeOf, answered, answerAt, evaluatedLiv
 use Rattle.eval.specs.declared.rows.Place.{Place}
 use Rattle.eval.specs.declared.walk.Answer.{Answer}
 use Rattle.tree.specs.Arena.{nodesOf}
-use Rattle.tree.specs.Meaning.{value}
 use Rattle.tree.specs.Form.{checked}
+use Rattle.tree.specs.Meaning.{value}
 use Rattle.tree.specs.Rows.{badRow, assigned, missing, valued, passed, evaluated}
 use Rattle.tree.specs.Tree.{hasTop}
 use Rattle.tree.specs.declared.Evaluated.{Evaluated}
@@ -54,3 +54,9 @@ module _ (words : List ℕ) (count root : ℕ) (rows : List ℕ) where
   unfolding evaluatedLive answerAt
   evaluated-answer good free =
       rw (good, free) (valued-of (missing rows (nodesOf count words) root) (value (assigned rows) (treeOf count words root)))
+
+  -- an assignment gives a value to a tree from which no Top is reached
+  pub evaluated-value : badRow rows ≡ none → hasTop (treeOf count words root) ≡ false → missing rows (nodesOf count words) root ≡ none →
+      evaluatedLive words count root rows ≡ Evaluated.Value (value (assigned rows) (treeOf count words root))
+  unfolding evaluatedLive
+  evaluated-value good free all = rw (good, free, all)

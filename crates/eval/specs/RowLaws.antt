@@ -1,21 +1,20 @@
 -- Laws of rows: the searches, row by row, and that values of good rows fit. Assumes nothing.
-use mathlib.Core.Bool.{Bool, true, false, cond, _&&_}
+use mathlib.Core.Bool.{Bool, true, false, cond}
 use mathlib.Core.List.{List}
 use mathlib.Core.Option.{Option, some, none}
-use mathlib.Core.Path.{_≡_, refl, sym, subst, _∙_}
+use mathlib.Core.Path.{_≡_, refl, subst}
 use Prim.Native.Nat.{ℕ, zero, suc, _+_, _-_, _*_, _%_, _^_, _≤_, _<_}
-use native.Mathlib.Decide.{decLt}
 use native.Mathlib.Numerals.{add-one}
 use native.Mathlib.Omega.{arith}
-use borrow.Author.Tests.{ltb-true, lt-ltb, le-ltb, le-leb, lt-leb}
-use lib.Dec.{eqb, leb, ltb}
+use borrow.Author.Tests.{ltb-true}
+use lib.Dec.{eqb, ltb}
 use lib.ListN.{length}
 use lib.Pow.{pow-pos}
 use Rattle.format.specs.Header.{sizeOf}
 use Rattle.format.specs.Truth.{and-left, and-right, eqb-equal}
 use Rattle.tree.specs.Form.{isSize}
 use Rattle.tree.specs.Meaning.{Fitting}
-use Rattle.tree.specs.Rows.{rowWords, keyHeader, keyPayload, rowValue, goodRow, badRowFrom, badRow, keyed, foundFrom, found, orZero, assigned}
+use Rattle.tree.specs.Rows.{rowWords, keyHeader, keyPayload, rowValue, goodRow, badRowFrom, badRow, keyed, foundFrom, orZero, assigned}
 
 -- SEARCHING n whole rows, of which j are passed
 
@@ -37,25 +36,6 @@ module _ (rows : List ℕ) (n j : ℕ) where
     pub found-end : n ≤ j → foundFrom rows (n - j) j word payload ≡ none
     unfolding foundFrom
     found-end h = let e : n - j ≡ 0 = omega arith in rw e
-
--- GOOD ROWS
-
-below-mask : (v k : ℕ) → leb v (2 ^ k - 1) ≡ ltb v (2 ^ k)
-below-mask v k = by-order (decLt v (2 ^ k))
-  where
-    by-order : Dec (v < 2 ^ k) → leb v (2 ^ k - 1) ≡ ltb v (2 ^ k)
-    by-order (yes fits) = le-leb v (2 ^ k - 1) (omega arith) ∙ sym (lt-ltb v (2 ^ k) fits)
-    by-order (no past) = lt-leb v (2 ^ k - 1) (omega (arith, pow-pos k)) ∙ sym (le-ltb v (2 ^ k) (omega arith))
-
-module _ (rows : List ℕ) (j : ℕ) where
-  -- a row with a size is good if its value is no more than the size's mask
-  pub good-if-masked : isSize (sizeOf (keyHeader rows j)) ≡ true → leb (rowValue rows j) (2 ^ (8 * sizeOf (keyHeader rows j)) - 1) ≡ goodRow rows j
-  unfolding goodRow
-  good-if-masked is = rw is (below-mask (rowValue rows j) (8 * sizeOf (keyHeader rows j)))
-
-  pub bad-if-unsized : isSize (sizeOf (keyHeader rows j)) ≡ false → goodRow rows j ≡ false
-  unfolding goodRow
-  bad-if-unsized is = rw is
 
 -- VALUES OF GOOD ROWS FIT
 

@@ -11,8 +11,8 @@ use Rattle.format.specs.declared.Sizing.{Sizing}
 use Rattle.format.specs.declared.Un.{Un}
 use Rattle.theory.specs.Keeps.{operands, value-fits}
 use Rattle.theory.specs.Lawful.{at-size, Operands}
-use Rattle.theory.specs.Sizes.{Allowed, child-allowed, free-isTop, free-left, free-right, size-bounds, tree-isSize, un-isSize, bin-isSize}
-use Rattle.tree.specs.Form.{unSizing, binSizing, sizeSeen, Sized}
+use Rattle.theory.specs.Sizes.{Allowed, child-allowed, free-isTop, free-left, free-right, size-bounds, tree-isSize}
+use Rattle.tree.specs.Form.{unSizing, binSizing, Sized}
 use Rattle.tree.specs.Meaning.{Assignment, Fitting, value}
 use Rattle.tree.specs.Tree.{Tree, unary, binary, size, hasTop}
 use Rattle.values.specs.Operands.{Fitting as Asked}

@@ -3,9 +3,8 @@ ghost use mathlib.Core.Path.{_≡_};
 ghost use Prim.Native.Nat.{_+_, _*_, _<_};
 ghost use lib.ListN.{length};
 ghost use Rattle.eval.specs.Answers.{placeOf, foundOf};
-ghost use Rattle.tree.specs.Form.{isSize};
 ghost use Rattle.tree.specs.Rows.{rowWords, goodRow, badRow, keyed as keyedBy, found};
-use arith::width;
+use form::sizes;
 use words::fields;
 
 // How many words a row takes.
@@ -23,31 +22,13 @@ pub enum Found {
     Nothing,
 }
 
-fn is_size(size: u64) -> bool
-    ensures { λ r. ⌜ r ≡ isSize size ⌝ }
-{
-    if size == 1 {
-        return true;
-    }
-    if size == 2 {
-        return true;
-    }
-    if size == 4 {
-        return true;
-    }
-    size == 8
-}
-
 // A whole row: its size is one, and its value fits it.
 fn good_row(rows: &[u64], j: usize) -> bool
     requires { ⌜ rowWords * j + 2 < length (now rows) ⌝ }
     ensures { λ r. ⌜ r ≡ goodRow (now (rows .entry)) j ⌝ }
 {
     let size = fields::size_of(rows[ROW_WORDS * j]);
-    if is_size(size) {
-        return rows[ROW_WORDS * j + 2] <= width::mask_for_size(size);
-    }
-    false
+    sizes::is_size(size) & sizes::fits(rows[ROW_WORDS * j + 2], size)
 }
 
 // The first bad row. After the whole rows, one that the slice ends inside is bad too.
@@ -73,10 +54,7 @@ fn keyed(rows: &[u64], j: usize, word: u64, payload: u64) -> bool
     requires { ⌜ rowWords * j + 2 < length (now rows) ⌝ }
     ensures { λ r. ⌜ r ≡ keyedBy (now (rows .entry)) j word payload ⌝ }
 {
-    if rows[ROW_WORDS * j] == word {
-        return rows[ROW_WORDS * j + 1] == payload;
-    }
-    false
+    (rows[ROW_WORDS * j] == word) & (rows[ROW_WORDS * j + 1] == payload)
 }
 
 // The value of the first row that has these two words.

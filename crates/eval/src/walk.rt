@@ -3,13 +3,16 @@ ghost use mathlib.Core.Path.{_≡_};
 ghost use Prim.Native.Nat.{_+_, _*_, _<_};
 ghost use lib.ListN.{length};
 ghost use Rattle.arena.specs.Live.{Live, treeOf};
-ghost use Rattle.eval.specs.Answers.{Evaluable, inputAnswer, answerAt};
+ghost use Rattle.eval.specs.Answers.{inputAnswer, overOne, overTwo, answerAt, OperandFits, OperandsFit, Evaluable};
 ghost use Rattle.format.specs.Limits.{nodeWords, headerAt, payloadAt};
+ghost use Rattle.tree.specs.Form.{binSizing};
 ghost use Rattle.tree.specs.Rows.{found};
 ghost use Rattle.tree.specs.Tree.{size as sizeOf, hasTop};
 use crate::rows;
 use crate::rows::Found;
+use format::Bin;
 use format::Node;
+use format::Un;
 use words::NODE_WORDS;
 
 // A value, or the index of the first input without a row.
@@ -58,7 +61,32 @@ fn input_at(words: &[u64], rows: &[u64], i: usize) -> Answer
     }
 }
 
-// The value of the tree under node i. Left comes before right, and what is missing ends the walk.
+// An operator over its operand's answer.
+fn over_one(op: Un, size: u64, child: u64, operand: Answer) -> Answer
+    requires { ⌜ OperandFits size child operand ⌝ }
+    ensures { λ r. ⌜ r ≡ overOne op size child operand ⌝ }
+{
+    match operand {
+        Answer::Value(x) => Answer::Value(values::un_value(op, size, child, x)),
+        Answer::Missing(j) => Answer::Missing(j),
+    }
+}
+
+// An operator over its operands' answers: left before right.
+fn over_two(op: Bin, size: u64, child: u64, left: Answer, right: Answer) -> Answer
+    requires { ⌜ OperandsFit (binSizing op) size child left right ⌝ }
+    ensures { λ r. ⌜ r ≡ overTwo op size child left right ⌝ }
+{
+    match left {
+        Answer::Value(x) => match right {
+            Answer::Value(y) => Answer::Value(values::bin_value(op, size, child, x, y)),
+            Answer::Missing(j) => Answer::Missing(j),
+        },
+        Answer::Missing(j) => Answer::Missing(j),
+    }
+}
+
+// The value of the tree under node i.
 pub fn value_at(words: &[u64], count: usize, rows: &[u64], i: usize) -> Answer
     requires { ⌜ Evaluable (now words) count (now rows) i ⌝ }
     ensures { λ r. ⌜ r ≡ answerAt (now (words .entry)) count (now (rows .entry)) i ⌝ }
@@ -68,23 +96,14 @@ pub fn value_at(words: &[u64], count: usize, rows: &[u64], i: usize) -> Answer
         Node::Entry(_, _, _) => input_at(words, rows, i),
         Node::Const(_, value) => Answer::Value(value),
         Node::Bind(_, _) => input_at(words, rows, i),
-        Node::Unary(op, size, left) => match value_at(words, count, rows, left) {
-            Answer::Value(x) => Answer::Value(values::un_value(
-                op,
-                size,
-                size_at(words, count, left),
-                x,
-            )),
-            Answer::Missing(j) => Answer::Missing(j),
-        },
-        Node::Binary(op, size, left, right) => match value_at(words, count, rows, left) {
-            Answer::Value(x) => match value_at(words, count, rows, right) {
-                Answer::Value(y) => {
-                    Answer::Value(values::bin_value(op, size, size_at(words, count, left), x, y))
-                }
-                Answer::Missing(j) => Answer::Missing(j),
-            },
-            Answer::Missing(j) => Answer::Missing(j),
-        },
+        Node::Unary(op, size, left) => {
+            let operand = value_at(words, count, rows, left);
+            over_one(op, size, size_at(words, count, left), operand)
+        }
+        Node::Binary(op, size, left, right) => {
+            let first = value_at(words, count, rows, left);
+            let second = value_at(words, count, rows, right);
+            over_two(op, size, size_at(words, count, left), first, second)
+        }
     }
 }

@@ -1,6 +1,6 @@
 -- A node's children, and what a tree's nodes and paths are by them. Assumes nothing.
 use mathlib.Core.List.{List}
-use mathlib.Core.Path.{_≡_, refl, ap, sym, _∙_}
+use mathlib.Core.Path.{_≡_, refl, ap, _∙_}
 use Prim.Native.Nat.{ℕ, suc, _+_, _<_, max}
 use native.Mathlib.Omega.{arith}
 use Rattle.arena.specs.Live.{Live, treeOf}

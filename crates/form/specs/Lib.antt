@@ -1,3 +1,4 @@
 pub mod Children
 pub mod Budget
 pub mod Walks
+pub mod Sizes

@@ -1,8 +1,8 @@
 -- A walk over the tree under a node, from the node to its children: the budget that is left and the path that is left. Assumes nothing.
 use mathlib.Core.Bool.{true, false}
 use mathlib.Core.List.{List}
-use mathlib.Core.Path.{_≡_, ap, sym, _∙_}
-use Prim.Native.Nat.{ℕ, _-_, _<_}
+use mathlib.Core.Path.{_≡_, sym}
+use Prim.Native.Nat.{ℕ, _-_}
 use native.Mathlib.Omega.{arith}
 use lib.Dec.{leb}
 use borrow.Author.Tests.{le-leb, lt-leb}
@@ -12,26 +12,11 @@ use Rattle.form.specs.Children.{childrenOf, Within, nodes-at, path-at}
 use Rattle.form.specs.declared.limits.Budget.{Budget}
 use Rattle.form.specs.declared.limits.Children.{Children}
 use Rattle.format.specs.Limits.{maxPath, maxUnfolded}
+use Rattle.theory.specs.Falls.{nodes-positive, path-positive}
 use Rattle.tree.specs.Arena.{nodeAt}
 use Rattle.tree.specs.Form.{limited}
-use Rattle.tree.specs.Tree.{Tree, top, entry, const, bind, unary, binary, nodes, path}
+use Rattle.tree.specs.Tree.{Tree, nodes, path}
 use Rattle.tree.specs.declared.Verdict.{Verdict}
-
-nodes-positive : (t : Tree) → 0 < nodes t
-nodes-positive top = omega arith
-nodes-positive (entry s space offset) = omega arith
-nodes-positive (const s v) = omega arith
-nodes-positive (bind s id) = omega arith
-nodes-positive (unary op s a) = omega arith
-nodes-positive (binary op s a b) = omega arith
-
-path-positive : (t : Tree) → 0 < path t
-path-positive top = omega arith
-path-positive (entry s space offset) = omega arith
-path-positive (const s v) = omega arith
-path-positive (bind s id) = omega arith
-path-positive (unary op s a) = omega arith
-path-positive (binary op s a b) = omega arith
 
 -- every tree has a node
 pub nothing-left : (budget : ℕ) → budget ≡ 0 → (t : Tree) → Budget.Over ≡ spent budget (nodes t)

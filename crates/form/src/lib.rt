@@ -5,8 +5,8 @@ ghost use lib.ListN.{length};
 ghost use Rattle.format.specs.Limits.{nodeWords};
 ghost use Rattle.tree.specs.Form.{judged, scanned, checked};
 
-pub mod fields;
-pub mod limits;
+mod fields;
+mod limits;
 pub mod sizes;
 
 use tree::Verdict;
@@ -56,7 +56,7 @@ pub fn check(words: &[u64], count: usize, root: usize) -> Verdict
     }
     let verdict = scan(words, count);
     if let Verdict::Passed = verdict {
-        limits::within(words, count, root)
+        limits::limited(words, count, root)
     } else {
         verdict
     }

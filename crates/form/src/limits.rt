@@ -8,7 +8,7 @@ ghost use Rattle.form.specs.Budget.{spent};
 ghost use Rattle.form.specs.Children.{childrenOf, Within};
 ghost use Rattle.format.specs.Limits.{nodeWords};
 ghost use Rattle.tree.specs.Arena.{nodeAt};
-ghost use Rattle.tree.specs.Form.{limited};
+ghost use Rattle.tree.specs.Form.{limited as limitedOf};
 ghost use Rattle.tree.specs.Tree.{nodes, path};
 use format::Node;
 use tree::Verdict;
@@ -42,7 +42,7 @@ fn children_at(words: &[u64], i: usize) -> Children
     }
 }
 
-// A budget, less the nodes of the tree under i. No more of them are visited than the budget has, and one.
+// A budget, less the nodes of the tree under i. At most one node more is visited than the budget has.
 fn spend(words: &[u64], count: usize, i: usize, budget: u64) -> Budget
     requires { ⌜ Within (now words) count i ⌝ }
     ensures { λ r. ⌜ r ≡ spent budget (nodes (treeOf count (now (words .entry)) i)) ⌝ }
@@ -60,7 +60,7 @@ fn spend(words: &[u64], count: usize, i: usize, budget: u64) -> Budget
     }
 }
 
-// Whether no path from i has more than `most` nodes. Each node of the unfolded tree is visited once at most.
+// Whether no path from i has more than `most` nodes. Each node of the unfolded tree is visited at most once.
 fn path_within(words: &[u64], count: usize, i: usize, most: u64) -> bool
     requires { ⌜ Within (now words) count i ⌝ }
     ensures { λ r. ⌜ r ≡ leb (path (treeOf count (now (words .entry)) i)) most ⌝ }
@@ -81,9 +81,9 @@ fn path_within(words: &[u64], count: usize, i: usize, most: u64) -> bool
 }
 
 // The nodes first: where they are too many, no path is walked.
-pub fn within(words: &[u64], count: usize, root: usize) -> Verdict
+pub fn limited(words: &[u64], count: usize, root: usize) -> Verdict
     requires { ⌜ Within (now words) count root ⌝ }
-    ensures { λ r. ⌜ r ≡ limited (treeOf count (now (words .entry)) root) ⌝ }
+    ensures { λ r. ⌜ r ≡ limitedOf (treeOf count (now (words .entry)) root) ⌝ }
 {
     if let Budget::Over = spend(words, count, root, MAX_UNFOLDED) {
         return Verdict::TooManyNodes;

@@ -13,7 +13,7 @@ use words::NODE_WORDS;
 // Top's number.
 const KIND_TOP: usize = 0;
 
-fn is_size(size: u64) -> bool
+pub fn is_size(size: u64) -> bool
     ensures { λ r. ⌜ r ≡ isSize size ⌝ }
 {
     (size == 1) | ((size == 2) | ((size == 4) | (size == 8)))
@@ -47,7 +47,7 @@ fn one_size(left: ChildSize, right: ChildSize) -> bool
 }
 
 // Whether a value fits `size` bytes. Every word fits eight.
-fn fits(value: u64, size: u64) -> bool
+pub fn fits(value: u64, size: u64) -> bool
     ensures { λ r. ⌜ r ≡ ltb value (2 ^ (8 * size)) ⌝ }
 {
     if 8 <= size {
@@ -60,13 +60,14 @@ fn fits(value: u64, size: u64) -> bool
 fn sized(sizing: Sizing, size: u64, payload: u64, left: ChildSize, right: ChildSize) -> bool
     ensures { λ r. ⌜ r ≡ sizedOf sizing size payload left right ⌝ }
 {
+    let known = is_size(size);
     match sizing {
         Sizing::Unsized => size == 0,
-        Sizing::Input => is_size(size),
-        Sizing::Constant => is_size(size) & fits(payload, size),
-        Sizing::Same => is_size(size) & (same_size(size, left) & same_size(size, right)),
-        Sizing::Shift => is_size(size) & (same_size(size, left) & no_wider(size, right)),
-        Sizing::Extension => is_size(size) & no_wider(size, left),
+        Sizing::Input => known,
+        Sizing::Constant => known & fits(payload, size),
+        Sizing::Same => known & (same_size(size, left) & same_size(size, right)),
+        Sizing::Shift => known & (same_size(size, left) & no_wider(size, right)),
+        Sizing::Extension => known & no_wider(size, left),
         Sizing::Flag => (size == 1) & one_size(left, right),
     }
 }

@@ -2,11 +2,11 @@
 use mathlib.Core.Bool.{Bool, true, false, _&&_}
 use mathlib.Core.List.{List}
 use mathlib.Core.Path.{_≡_, refl}
-use Prim.Native.Nat.{ℕ, _+_, _*_, _<_, _≤_}
+use Prim.Native.Nat.{ℕ, _+_, _*_, _<_}
 use native.Mathlib.Omega.{arith}
 use lib.Dec.{leb, ltb}
 use lib.ListN.{length}
-use borrow.Author.Tests.{eqb-true, ltb-true, le-leb, lt-leb}
+use borrow.Author.Tests.{eqb-true, ltb-true}
 use Rattle.format.specs.Header.{kindOf, leftOf, rightOf, spaceOf}
 use Rattle.format.specs.Kinds.{kindCount, rowOf}
 use Rattle.format.specs.Limits.{nodeWords, headerAt, payloadAt}
@@ -46,11 +46,15 @@ module _ (words : List ℕ) (i : ℕ) (formed : wellFormed words i ≡ true) whe
 
   pub kind-known : kindOf word < kindCount
   unfolding wellFormed
-  kind-known = ltb-true (kindOf word) kindCount (and-left (ltb (kindOf word) kindCount) (rowFits row word (payloadAt words i) i) formed)
+  kind-known =
+      let known = ltb (kindOf word) kindCount in
+      ltb-true (kindOf word) kindCount (and-left known (rowFits row word (payloadAt words i) i) formed)
 
   pub row-fits : Fits row word (payloadAt words i) i
   unfolding wellFormed
-  row-fits = fits row word (payloadAt words i) i (and-right (ltb (kindOf word) kindCount) (rowFits row word (payloadAt words i) i) formed)
+  row-fits =
+      let payload = payloadAt words i in
+      fits row word payload i (and-right (ltb (kindOf word) kindCount) (rowFits row word payload i) formed)
 
 -- a field that is used, and one that is not
 pub used-below : (used : Bool) (child i : ℕ) → belowIfUsed used child i ≡ true → used ≡ true → child < i

@@ -1,9 +1,9 @@
 -- A well-made node's words are given back by their node, and such words are well formed. Assumes nothing.
-use mathlib.Core.Bool.{Bool, true, false, _&&_}
+use mathlib.Core.Bool.{Bool, true, _&&_}
 use mathlib.Core.List.{List}
 use mathlib.Core.Path.{_≡_, refl, ap, sym, _∙_}
-use Prim.Native.Nat.{ℕ, _+_, _*_, _^_, _<_}
-use lib.Dec.{eqb, leb, ltb}
+use Prim.Native.Nat.{ℕ, _*_, _^_, _<_}
+use lib.Dec.{leb, ltb}
 use lib.ListN.{getD}
 use borrow.Author.Tests.{eqb-true, ltb-true, lt-ltb, lt-leb}
 use Rattle.arena.specs.Live.{Good}
@@ -15,12 +15,11 @@ use Rattle.format.specs.Nodes.{headerOf, payloadOf, Narrow}
 use Rattle.format.specs.NodesOfWords.{Unused, header-of-node, payload-of-node, narrow-of-words}
 use Rattle.format.specs.declared.Node.{Node}
 use Rattle.format.specs.declared.Row.{Row}
-use Rattle.format.specs.declared.Sizing.{Sizing}
-use Rattle.formed.specs.Fits.{Fits, kind-known, row-fits, used-below, unused-child-zero, unused-zero}
+use Rattle.formed.specs.Fits.{Fits, kind-known, row-fits, unused-child-zero, unused-zero}
 use Rattle.formed.specs.NodeFields.{nodeShape, nodeLeft, nodeRight, nodeSpace, shape-known, fields-of-node, line-of-shape}
 use Rattle.formed.specs.Scan.{WellMade}
 use Rattle.tree.specs.Arena.{nodeAt, Below}
-use Rattle.tree.specs.Form.{zeroUnlessUsed, belowIfUsed, rowFits, sized, childSize, rowSized, wellFormed, wellSized}
+use Rattle.tree.specs.Form.{zeroUnlessUsed, belowIfUsed, rowFits, rowSized, wellFormed, wellSized}
 
 -- a node's own fields are as its shape has them
 module _ (i : ℕ) where
@@ -48,12 +47,6 @@ module _ (i : ℕ) where
 
 -- words that are a node's
 module _ (word payload i : ℕ) (node : Node) (narrow : Narrow node) (header-is : headerOf node ≡ word) where
-  kind-of-node : kindOf word ≡ numberOf (nodeShape node)
-  kind-of-node = ap kindOf (sym header-is) ∙ fields-of-node node narrow .kind-is
-
-  row-of-node : rowOf (kindOf word) ≡ rowOf (numberOf (nodeShape node))
-  row-of-node = ap rowOf kind-of-node
-
   formed-by-node : payloadOf node ≡ payload → Below i node →
       (ltb (kindOf word) kindCount && rowFits (rowOf (kindOf word)) word payload i) ≡ true
   formed-by-node payload-is b =
@@ -108,9 +101,11 @@ module _ (words : List ℕ) (narrow : (k : ℕ) → getD words k 0 < 2 ^ 64) (i 
 
   pub good-of-well-made : Good words i
   good-of-well-made =
-      let header-is = header-of-node word (payloadAt words i) unused in
+      let payload = payloadAt words i in
+      let header-is = header-of-node word payload unused in
+      let fits = row-fits words i (made .formed) in
       record {
         header-is = header-is;
-        payload-is = payload-of-node word (payloadAt words i) unused;
-        below = below-by-node word (payloadAt words i) i (nodeAt words i) (narrow-of-words word (payloadAt words i)) header-is (row-fits words i (made .formed));
+        payload-is = payload-of-node word payload unused;
+        below = below-by-node word payload i (nodeAt words i) (narrow-of-words word payload) header-is fits;
       }

@@ -10,6 +10,7 @@ use native.Mathlib.Omega.{arith}
 use Rattle.tree.specs.Form.{wellFormed, wellSized, judged, orElse, scanned}
 use Rattle.tree.specs.declared.Verdict.{Verdict}
 
+-- node i is well formed and well sized
 pub record WellMade (words : List ℕ) (i : ℕ) : Type 0 where
   pub formed : wellFormed words i ≡ true
   pub sized : wellSized words i ≡ true
@@ -31,6 +32,7 @@ Says words n i Verdict.TooManyNodes = ⊥
 Says words n i Verdict.PathTooLong = ⊥
 
 module _ (words : List ℕ) where
+  -- one node
   here : (i : ℕ) → First words 1 i i
   here i = record { from = omega arith; below = omega arith; before = λ k a b. absurd (omega arith) }
 
@@ -104,6 +106,7 @@ module _ (words : List ℕ) where
       let e : count - i ≡ suc (count - (i + 1)) = omega arith in
       rw (e, add-one)
 
+  -- where every node is well made, the scan passes
   judged-passes : (i : ℕ) → WellMade words i → judged words i ≡ Verdict.Passed
   unfolding judged
   judged-passes i w = rw (w .formed, w .sized)

@@ -5,7 +5,6 @@ use mathlib.Core.Path.{_≡_, refl, ap, sym, _∙_}
 use Prim.Native.Nat.{ℕ, zero, suc, _<_}
 use native.Mathlib.Omega.{arith}
 use lib.Dec.{eqb, leb}
-use lib.ListN.{length}
 use borrow.Author.Tests.{ne-eqb}
 use Rattle.arena.specs.Live.{Good, treeOf, nodeSize}
 use Rattle.format.specs.Header.{kindOf, sizeOf}
@@ -111,8 +110,9 @@ module _ (words : List ℕ) (count : ℕ) (good : (i : ℕ) → i < count → Go
   sized-within : ((i : ℕ) → i < count → wellSized words i ≡ true) → (steps i : ℕ) → i < steps → i < count → Sized (treeOf count words i)
   sized-within fit zero i s h = absurd (omega arith)
   sized-within fit (suc steps) i s h =
+      let narrow = narrow-of-words (headerAt words i) (payloadAt words i) in
       rw (tree-is i h)
-      (sized-tree words (treeOf count words) i (λ j b. seen j (omega arith)) (nodeAt words i) (narrow-of-words (headerAt words i) (payloadAt words i)) (good i h .below)
+      (sized-tree words (treeOf count words) i (λ j b. seen j (omega arith)) (nodeAt words i) narrow (good i h .below)
       (λ j b. sized-within fit steps j (omega arith) (omega arith)) (sym (as-node i h) ∙ fit i h))
 
   pub trees-sized : ((i : ℕ) → i < count → wellSized words i ≡ true) → (i : ℕ) → i < count → Sized (treeOf count words i)

@@ -1,3 +1,5 @@
 pub mod Turns
 pub mod Settled
 pub mod Chains
+pub mod Visits
+pub mod Ready

@@ -37,10 +37,6 @@ Settles arena (Act.Redo op w v) own swapped s a b =
     New arena (makeConst s v) × New (arena ++ makeConst s v ∷ []) (Node.Binary op s (near w arena a b) (length arena))
 Settles arena (Act.RedoUnary op w) own swapped s a b = New arena (Node.Unary op s (near w arena a b))
 
--- a node that has been visited: it is still there, with the children that it had
-pub record Visited (words : List ℕ) (count i : ℕ) (node : Node) : Type 0 where
-  pub below : i < count
-
 module _ (arena : List Node) (w : Ordered arena) (few : length arena ≤ maxNodes) (s : ℕ) (narrow : s < 2 ^ 8) where
   new-const : (v : ℕ) → Sized (constTree s v) → New arena (makeConst s v)
   new-const v ok = record { below = tt; narrow = narrow; sized = ok }

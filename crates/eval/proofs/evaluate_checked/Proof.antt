@@ -1,7 +1,7 @@
 -- Rows first, then Tops, then what is missing. Assumes nothing.
-use mathlib.Core.Path.{sym, ap, _∙_}
+use mathlib.Core.Path.{sym, _∙_}
 use borrow.Author.Needs.{needs}
-use Rattle.eval.specs.EvaluatedLaws.{evaluatedOf, no-bad-row, evaluated-bad-row, evaluated-top, evaluated-answer}
+use Rattle.eval.specs.EvaluatedLaws.{no-bad-row, evaluated-bad-row, evaluated-top, evaluated-answer}
 use Rattle.eval.proofs.evaluate_checked.Statement.{statement}
 use Rattle.eval.proofs.evaluate_checked.Tie as tie
 

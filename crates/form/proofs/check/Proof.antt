@@ -25,17 +25,18 @@ scan-requires c κs = capacity-room _ _ (rw (c .before .before .capacity .ensure
 enum-told : tie.Need-enum-told
 enum-told c = search needs
 
-within-requires : tie.Need-within-requires
-within-requires c κs =
+limited-requires : tie.Need-limited-requires
+limited-requires c κs =
     let room = rw (c .before .before .before .before .before .capacity .ensures) at (c .before .before .before .before .if1 .left) in
     let scan = sym (c .before .before .scan .ensures) ∙ c .enum-told .given .1 in
-    record { live = live-of-scan _ _ (λ k. c .before .before .before .before .before .before .shared-slice-known .given k .fits) room scan; below = c .before .before .before .if2 .left }
+    let narrow = c .before .before .before .before .before .before .shared-slice-known .given in
+    record { live = live-of-scan _ _ (λ k. narrow k .fits) room scan; below = c .before .before .before .if2 .left }
 
 returns-3 : tie.Need-returns-3
 returns-3 c =
     let room = rw (c .before .before .before .before .before .before .capacity .ensures) at (c .before .before .before .before .before .if1 .left) in
     let scan = sym (c .before .before .before .scan .ensures) ∙ c .before .enum-told .given .1 in
-    c .within .ensures ∙ sym (scan-decides _ _ _ room (c .before .before .before .before .if2 .left) _ scan)
+    c .limited .ensures ∙ sym (scan-decides _ _ _ room (c .before .before .before .before .if2 .left) _ scan)
 
 returns-4 : tie.Need-returns-4
 returns-4 c =
@@ -51,6 +52,6 @@ check-spec =
     returns-2
     scan-requires
     enum-told
-    within-requires
+    limited-requires
     returns-3
     returns-4)

@@ -11,20 +11,26 @@ well-formed-requires c κs = search needs
 
 returns : tie.Need-returns
 unfolding judged
-returns c = rw (sym (c .before .well-formed .ensures) ∙ not-true (c .before .well-formed .result) (c .if1 .taken))
+returns c =
+    let form = c .before .well-formed in
+    rw (sym (form .ensures) ∙ not-true (form .result) (c .if1 .taken))
 
 well-sized-requires : tie.Need-well-sized-requires
-well-sized-requires c κs = (c .before .before .before .pre, sym (c .before .well-formed .ensures) ∙ not-false (c .before .well-formed .result) (c .if1 .left))
+well-sized-requires c κs =
+    let form = c .before .well-formed in
+    (c .before .before .before .pre, sym (form .ensures) ∙ not-false (form .result) (c .if1 .left))
 
 returns-2 : tie.Need-returns-2
 unfolding judged
 returns-2 c =
-    rw (sym (c .before .before .before .well-formed .ensures) ∙ not-false (c .before .before .before .well-formed .result) (c .before .before .if1 .left), sym (c .before .well-sized .ensures) ∙ c .if2 .taken)
+    let form = c .before .before .before .well-formed in
+    rw (sym (form .ensures) ∙ not-false (form .result) (c .before .before .if1 .left), sym (c .before .well-sized .ensures) ∙ c .if2 .taken)
 
 returns-3 : tie.Need-returns-3
 unfolding judged
 returns-3 c =
-    rw (sym (c .before .before .before .well-formed .ensures) ∙ not-false (c .before .before .before .well-formed .result) (c .before .before .if1 .left), sym (c .before .well-sized .ensures) ∙ c .if2 .left)
+    let form = c .before .before .before .well-formed in
+    rw (sym (form .ensures) ∙ not-false (form .result) (c .before .before .if1 .left), sym (c .before .well-sized .ensures) ∙ c .if2 .left)
 
 pub judge-spec : {M : Type 1} → statement M
 judge-spec =

@@ -33,14 +33,18 @@ loop-less c = omega arith
 
 loop-again : tie.Need-loop-again Inv-loop μ-loop
 loop-again c =
-    (omega arith, c .before .before .before .before .loop .inv .1 ∙ scan-goes-on _ _ _ (c .before .before .before .if1 .left) ∙ rw (sym (c .before .before .judge .ensures) ∙ c .enum-told .given .1))
+    let at = c .before .before .before .before .loop in
+    let passed = sym (c .before .before .judge .ensures) ∙ c .enum-told .given .1 in
+    (omega arith, at .inv .1 ∙ scan-goes-on _ _ (at .i) (c .before .before .before .if1 .left) ∙ rw passed)
 
 returns : tie.Need-returns Inv-loop μ-loop
 returns c = sym (c .before .loop .inv .1 ∙ scan-ends _ _ _ (c .if1 .taken))
 
 returns-2 : tie.Need-returns-2 Inv-loop μ-loop
 returns-2 c =
-    sym (c .before .before .before .loop .inv .1 ∙ scan-goes-on _ _ _ (c .before .before .if1 .left) ∙ rw (sym (c .before .judge .ensures)) (refused _ _ (c .match .keys2)))
+    let at = c .before .before .before .loop in
+    let judged = sym (c .before .judge .ensures) in
+    sym (at .inv .1 ∙ scan-goes-on _ _ (at .i) (c .before .before .if1 .left) ∙ rw judged (refused _ _ (c .match .keys2)))
 
 pub scan-spec : {M : Type 1} → statement M
 scan-spec =

@@ -1,147 +1,121 @@
+-- The writer carries an action out: each node that it makes is appended. Assumes nothing.
 use borrow.Author.Needs.{needs}
+use Rattle.run.specs.Chains.{ended-here, redo-unfinished, redo-ended}
 use Rattle.run.proofs.settle.Statement.{statement}
 use Rattle.run.proofs.settle.Tie as tie
-use Rattle.run.proofs.settle.Reads as reads
-use Rattle.run.proofs.settle.Lts as lts
-use Rattle.arena.proofs.near.Reads as near-reads
-use Rattle.arena.proofs.push.Reads as push-reads
-use Rattle.run.proofs.make_const.Reads as make-const-reads
 
--- src/lib.rt:91:16
 enum-told : tie.Need-enum-told
 enum-told c = search needs
 
--- src/lib.rt:92:17
 returns : tie.Need-returns
-returns c = ?
+returns c = rw ((c .before .enum-told) .given .1, (c .if1) .taken) (ended-here ((c .before .before .before .before .pre) .0) ((c .before .before .before .before .args) .i) ((c .before .before .before .before .pre) .1 .0 .0))
 
--- src/lib.rt:94:13
 push-requires : tie.Need-push-requires
-push-requires c κs = ?
+push-requires c κs = ((c .before .before .before .before .before .pre) .0, rw ((c .before .before .enum-told) .given .1) at ((c .before .before .before .before .before .pre) .1 .1))
 
--- src/lib.rt:96:34
 enum-told-2 : tie.Need-enum-told-2
 enum-told-2 c = search needs
 
--- src/lib.rt:96:22
 push-requires-2 : tie.Need-push-requires-2
-push-requires-2 c κs = ?
+push-requires-2 c κs = ((c .before .before .before .before .pre) .0, rw ((c .before .enum-told2) .given .1) at ((c .before .before .before .before .pre) .1 .1))
 
--- src/lib.rt:97:19
 enum-known-act : tie.Need-enum-known-act
 enum-known-act c = search needs
 
--- src/lib.rt:98:17
 near-requires : tie.Need-near-requires
 near-requires c κs = search needs
 
--- src/lib.rt:101:19
 enum-known-act-2 : tie.Need-enum-known-act-2
 enum-known-act-2 c = search needs
 
--- src/lib.rt:101:51
 make-const-requires : tie.Need-make-const-requires
 make-const-requires c κs = search needs
 
--- src/lib.rt:101:25
 push-requires-3 : tie.Need-push-requires-3
-push-requires-3 c κs = ?
+push-requires-3 c κs = ((c .before .before .before .before .before .before .pre) .0, rw ((c .make-const) .ensures) (rw ((c .before .before .before .act2) .given .1) at ((c .before .before .before .before .before .before .pre) .1 .1)))
 
--- src/lib.rt:102:19
 enum-known-act-3 : tie.Need-enum-known-act-3
 enum-known-act-3 c = search needs
 
--- src/lib.rt:103:17
 near-requires-2 : tie.Need-near-requires-2
 near-requires-2 c κs = search needs
 
--- src/lib.rt:104:45
 make-const-requires-2 : tie.Need-make-const-requires-2
 make-const-requires-2 c κs = search needs
 
--- src/lib.rt:104:19
 push-requires-4 : tie.Need-push-requires-4
-push-requires-4 c κs = ?
+push-requires-4 c κs = ((c .before .before .before .before .before .before .before .before .pre) .0, rw ((c .make-const2) .ensures) ((rw ((c .before .before .before .before .before .act3) .given .1) at ((c .before .before .before .before .before .before .before .before .pre) .1 .1)) .0))
 
--- src/lib.rt:105:33
 enum-told-3 : tie.Need-enum-told-3
 enum-told-3 c = search needs
 
--- src/lib.rt:106:28
 enum-known-right : tie.Need-enum-known-right
 enum-known-right c = search needs
 
--- src/lib.rt:106:41
 push-requires-5 : tie.Need-push-requires-5
-push-requires-5 c κs = ?
+push-requires-5 c κs =
+    let new = (rw ((c .before .before .before .before .before .before .before .before .before .before .before .before .act3) .given .1) at ((c .before .before .before .before .before .before .before .before .before .before .before .before .before .before .before .pre) .1 .1)) .1 in
+    let ended = rw ((c .before .before .right) .given .1, (c .before .before .before .before .before .before .before .make-const2) .ensures) at ((c .before .before .before .before .before .before .push4) .ensures) in
+    (ended .ran .live, rw (ended .ran .nodes-are, ended .ran .root-is, (c .before .before .before .before .before .before .before .before .before .near2) .ensures .0) new)
 
--- src/lib.rt:109:24
 enum-known-act-4 : tie.Need-enum-known-act-4
 enum-known-act-4 c = search needs
 
--- src/lib.rt:110:17
 near-requires-3 : tie.Need-near-requires-3
 near-requires-3 c κs = search needs
 
--- src/lib.rt:111:13
 push-requires-6 : tie.Need-push-requires-6
-push-requires-6 c κs = ?
+push-requires-6 c κs = ((c .before .before .before .before .before .before .before .pre) .0, rw ((c .before .near3) .ensures .0) (rw ((c .before .before .before .before .act4) .given .1) at ((c .before .before .before .before .before .before .before .pre) .1 .1)))
 
--- src/lib.rt:72:1
 same-length : tie.Need-same-length
 same-length c = search needs
 
--- src/lib.rt:72:1
 returns-2 : tie.Need-returns-2
-returns-2 c = ?
+returns-2 c = rw ((c .before .before .before .before .before .enum-told) .given .1, (c .before .before .before .before .if1) .left) ((c .before .before .push) .ensures)
 
--- src/lib.rt:72:1
 same-length-2 : tie.Need-same-length-2
 same-length-2 c = search needs
 
--- src/lib.rt:72:1
 returns-3 : tie.Need-returns-3
-returns-3 c = ?
+returns-3 c = rw ((c .before .before .before .before .enum-told2) .given .1) ((c .before .before .push2) .ensures)
 
--- src/lib.rt:72:1
 same-length-3 : tie.Need-same-length-3
 same-length-3 c = search needs
 
--- src/lib.rt:72:1
 returns-4 : tie.Need-returns-4
-returns-4 c = ?
+returns-4 c =
+    rw ((c .before .before .before .act) .given .1, ← ((c .near) .ensures .0)) (ended-here ((c .before .before .before .before .before .before .pre) .0) ((c .near) .result) ((c .near) .ensures .1))
 
--- src/lib.rt:72:1
 same-length-4 : tie.Need-same-length-4
 same-length-4 c = search needs
 
--- src/lib.rt:72:1
 returns-5 : tie.Need-returns-5
-returns-5 c = ?
+returns-5 c = rw ((c .before .before .before .before .before .before .act2) .given .1, ← ((c .before .before .before .make-const) .ensures)) ((c .before .before .push3) .ensures)
 
--- src/lib.rt:72:1
 same-length-5 : tie.Need-same-length-5
 same-length-5 c = search needs
 
--- src/lib.rt:72:1
 returns-6 : tie.Need-returns-6
-returns-6 c = ?
+returns-6 c =
+    rw ((c .before .before .before .before .before .before .before .before .before .before .act3) .given .1, ← ((c .before .before .before .before .before .before .before .near2) .ensures .0))
+    (redo-unfinished ((c .before .before .before .before .before .before .before .before .before .before .before .before .before .args) .words .now) ((c .before .before .before .before .push4) .last .0) ((c .before .before .before .before .before .before .before .before .before .before .before .before .before .args) .count) ((c .before .before .before .before .before .before .before .before .before .before .act3) .given .0 .0) ((c .before .before .before .before .before .before .before .before .before .before .before .before .before .args) .size) ((c .before .before .before .before .before .before .before .near2) .result) ((c .before .before .before .before .before .before .before .before .before .before .act3) .given .0 .1 .1 .0)
+    (rw ((c .enum-told3) .given .1, (c .before .before .before .before .before .make-const2) .ensures) at ((c .before .before .before .before .push4) .ensures)))
 
--- src/lib.rt:72:1
 same-length-6 : tie.Need-same-length-6
 same-length-6 c = search needs
 
--- src/lib.rt:72:1
 returns-7 : tie.Need-returns-7
-returns-7 c = ?
+returns-7 c =
+    rw ((c .before .before .before .before .before .before .before .before .before .before .before .before .before .before .before .act3) .given .1, ← ((c .before .before .before .before .before .before .before .before .before .before .before .before .near2) .ensures .0))
+    (redo-ended ((c .before .before .before .before .before .before .before .before .before .before .before .before .before .before .before .before .before .before .args) .words .now) ((c .before .before .before .before .before .before .before .before .before .push4) .last .0) ((c .before .before .before .before .before .before .before .before .before .before .before .before .before .before .before .before .before .before .args) .count) ((c .before .before .before .before .before .before .before .before .before .before .before .before .before .before .before .act3) .given .0 .0) ((c .before .before .before .before .before .before .before .before .before .before .before .before .before .before .before .before .before .before .args) .size) ((c .before .before .before .before .before .before .before .before .before .before .before .before .near2) .result) ((c .before .before .before .before .before .before .before .before .before .before .before .before .before .before .before .act3) .given .0 .1 .1 .0)
+    ((c .before .before .before .before .before .right) .given .0 .0) ((c .before .before .before .before .before .right) .given .0 .1 .0) (rw ((c .before .before .before .before .before .right) .given .1, (c .before .before .before .before .before .before .before .before .before .before .make-const2) .ensures) at ((c .before .before .before .before .before .before .before .before .before .push4) .ensures))
+    ((c .before .before .push5) .last .0) ((c .before .before .push5) .result) ((c .before .before .push5) .ensures))
 
--- src/lib.rt:72:1
 same-length-7 : tie.Need-same-length-7
 same-length-7 c = search needs
 
--- src/lib.rt:72:1
 returns-8 : tie.Need-returns-8
-returns-8 c = ?
+returns-8 c = rw ((c .before .before .before .before .before .before .before .act4) .given .1, ← ((c .before .before .before .before .near3) .ensures .0)) ((c .before .before .push6) .ensures)
 
 pub settle-spec : {M : Type 1} → statement M
 settle-spec =

@@ -1,8 +1,6 @@
--- A row's size first, then its value against the size's mask. Assumes nothing.
-use mathlib.Core.Path.{_≡_, sym, ap, _∙_}
+-- A row is good by its size and its value. Assumes nothing.
 use borrow.Author.Needs.{needs}
-use Rattle.theory.specs.Sizes.{size-bounds}
-use Rattle.eval.specs.RowLaws.{good-if-masked, bad-if-unsized}
+use Rattle.tree.specs.Rows.{goodRow}
 use Rattle.eval.proofs.rows.good_row.Statement.{statement}
 use Rattle.eval.proofs.rows.good_row.Tie as tie
 
@@ -21,30 +19,24 @@ size-of-requires c κs = search needs
 is-size-requires : tie.Need-is-size-requires
 is-size-requires c κs = search needs
 
-mul-result : tie.Need-mul-result
-mul-result c = search needs
+mul-fits : tie.Need-mul-fits
+mul-fits c = search needs
 
-add-result : tie.Need-add-result
-add-result c = search needs
+add-fits : tie.Need-add-fits
+add-fits c = search needs
 
-mul-result-2 : tie.Need-mul-result-2
-mul-result-2 c = search needs
+mul-fits-2 : tie.Need-mul-fits-2
+mul-fits-2 c = search needs
 
-shared-slice-read-result : tie.Need-shared-slice-read-result
-shared-slice-read-result c = search needs
+shared-slice-read-fits : tie.Need-shared-slice-read-fits
+shared-slice-read-fits c = search needs
 
-mask-for-size-requires : tie.Need-mask-for-size-requires
-mask-for-size-requires c κs =
-    let b = size-bounds _ (sym ((c .before .before .is-size) .ensures) ∙ (c .before .if1) .taken) in
-    record { least = b .0; most = b .1 }
+fits-requires : tie.Need-fits-requires
+fits-requires c κs = search needs
 
 returns : tie.Need-returns
-returns c =
-    rw ((c .mask-for-size) .ensures, (c .before .before .before .before .size-of) .ensures)
-    (good-if-masked _ _ (rw ((c .before .before .before .before .size-of) .ensures) at (sym ((c .before .before .before .is-size) .ensures) ∙ (c .before .before .if1) .taken)))
-
-returns-2 : tie.Need-returns-2
-returns-2 c = sym (bad-if-unsized _ _ (rw ((c .before .before .size-of) .ensures) at (sym ((c .before .is-size) .ensures) ∙ (c .if1) .left)))
+unfolding goodRow
+returns c = rw ((c .before .before .is-size) .ensures, (c .fits2) .ensures, (c .before .before .before .size-of) .ensures)
 
 pub good-row-spec : {M : Type 1} → statement M
 good-row-spec =
@@ -55,10 +47,9 @@ good-row-spec =
     shared-slice-read-size-of
     size-of-requires
     is-size-requires
-    mul-result
-    add-result
-    mul-result-2
-    shared-slice-read-result
-    mask-for-size-requires
-    returns
-    returns-2)
+    mul-fits
+    add-fits
+    mul-fits-2
+    shared-slice-read-fits
+    fits-requires
+    returns)

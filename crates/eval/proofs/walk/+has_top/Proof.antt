@@ -1,11 +1,11 @@
 -- Whether a Top is reached, by recursion on the index. Assumes nothing.
 use mathlib.Core.Path.{sym, _∙_}
-use borrow.Author.Needs.{needs}
-use native.Mathlib.Omega.{arith}
-use Rattle.arena.specs.LiveLaws.{tree-of-node, below-at}
 use Prim.Native.Nat.{ℕ, _<_}
+use borrow.Author.Needs.{needs}
 use borrow.Fn.Kinds.{In}
 use borrow.Fn.PlainCycle.{Measures, is, falls, and}
+use native.Mathlib.Omega.{arith}
+use Rattle.arena.specs.LiveLaws.{tree-of-node, below-at}
 use Rattle.eval.proofs.walk.has_top.Reads as has-top
 use Rattle.eval.proofs.walk.has_top.Kinds as has-top-kinds
 use Rattle.eval.proofs.walk.+has_top.Lts-has_top as has-top-lts

@@ -1,19 +1,19 @@
 -- A node's answer, by recursion on the index. Assumes nothing.
 use mathlib.Core.Path.{sym, _∙_}
-use borrow.Author.Needs.{needs}
-use native.Mathlib.Omega.{arith}
-use Rattle.eval.specs.AnswerLaws.{answer-of-node, only-child, left-child, right-child, operand-fits, operands-fit}
 use Prim.Native.Nat.{ℕ, _<_}
+use borrow.Author.Needs.{needs}
 use borrow.Fn.Kinds.{In}
 use borrow.Fn.PlainCycle.{Measures, is, falls, and}
+use native.Mathlib.Omega.{arith}
+use Rattle.eval.specs.AnswerLaws.{answer-of-node, only-child, left-child, right-child, operand-fits, operands-fit}
 use Rattle.eval.proofs.walk.value_at.Reads as value-at
 use Rattle.eval.proofs.walk.value_at.Kinds as value-at-kinds
 use Rattle.eval.proofs.walk.+value_at.Lts-value_at as value-at-lts
 use Rattle.arena.proofs.node_at.Reads as node-at-reads
 use Rattle.eval.proofs.walk.input_at.Reads as input-at-reads
+use Rattle.eval.proofs.walk.over_one.Reads as over-one-reads
+use Rattle.eval.proofs.walk.over_two.Reads as over-two-reads
 use Rattle.eval.proofs.walk.size_at.Reads as size-at-reads
-use Rattle.values.proofs.bin_value.Reads as bin-value-reads
-use Rattle.values.proofs.un_value.Reads as un-value-reads
 use Rattle.eval.proofs.walk.+value_at.{statement}
 use Rattle.eval.proofs.walk.+value_at.Tie.{close}
 
@@ -36,10 +36,10 @@ claims t = (
   value-at.Post,
   size-at-reads.Asked,
   size-at-reads.Learnt,
-  un-value-reads.Asked,
-  un-value-reads.Learnt,
-  bin-value-reads.Asked,
-  bin-value-reads.Learnt,
+  over-one-reads.Asked,
+  over-one-reads.Learnt,
+  over-two-reads.Asked,
+  over-two-reads.Learnt,
 )
 
 value-at-node-at-requires : (t : ℕ) → value-at-lts.Need-node-at-requires (claims t) (value-at-at t) value-at.Post
@@ -72,22 +72,16 @@ value-at-value-at-requires t c κs =
     let child = only-child ((c .before .before .before .before .before .before .pre) .1) _ _ _ e in
     (omega (arith, child .0), child .1)
 
-value-at-enum-known-x : (t : ℕ) → value-at-lts.Need-enum-known-x (claims t) (value-at-at t) value-at.Post
-value-at-enum-known-x t c = search needs
-
 value-at-size-at-requires : (t : ℕ) → value-at-lts.Need-size-at-requires (claims t) (value-at-at t) value-at.Post
 value-at-size-at-requires t c κs =
-    let e = sym ((c .before .before .before .before .before .before .before .node-at) .ensures) ∙ (c .before .before .before .before .before .op) .given .1 in
-    let child = only-child ((c .before .before .before .before .before .before .before .before .before .before .pre) .1) _ _ _ e .1 in
+    let e = sym ((c .before .before .before .before .node-at) .ensures) ∙ (c .before .before .op) .given .1 in
+    let child = only-child ((c .before .before .before .before .before .before .before .pre) .1) _ _ _ e .1 in
     (child .live, child .below)
 
-value-at-un-value-requires : (t : ℕ) → value-at-lts.Need-un-value-requires (claims t) (value-at-at t) value-at.Post
-value-at-un-value-requires t c κs =
-    let e = sym ((c .before .before .before .before .before .before .before .before .node-at) .ensures) ∙ (c .before .before .before .before .before .before .op) .given .1 in
-    rw ((c .size-at) .ensures) (operand-fits ((c .before .before .before .before .before .before .before .before .before .before .before .pre) .1) _ _ _ e _ (sym ((c .before .before .before .before .value-at) .ensures) ∙ (c .before .before .x) .given .1))
-
-value-at-enum-known-j : (t : ℕ) → value-at-lts.Need-enum-known-j (claims t) (value-at-at t) value-at.Post
-value-at-enum-known-j t c = search needs
+value-at-over-one-requires : (t : ℕ) → value-at-lts.Need-over-one-requires (claims t) (value-at-at t) value-at.Post
+value-at-over-one-requires t c κs =
+    let e = sym ((c .before .before .before .before .before .node-at) .ensures) ∙ (c .before .before .before .op) .given .1 in
+    rw ((c .size-at) .ensures, (c .before .value-at) .ensures) (operand-fits ((c .before .before .before .before .before .before .before .before .pre) .1) _ _ _ e)
 
 value-at-enum-known-op-2 : (t : ℕ) → value-at-lts.Need-enum-known-op-2 (claims t) (value-at-at t) value-at.Post
 value-at-enum-known-op-2 t c = search needs
@@ -98,80 +92,52 @@ value-at-value-at-requires-2 t c κs =
     let child = left-child ((c .before .before .before .before .before .before .pre) .1) _ _ _ _ e in
     (omega (arith, child .0), child .1)
 
-value-at-enum-known-x-2 : (t : ℕ) → value-at-lts.Need-enum-known-x-2 (claims t) (value-at-at t) value-at.Post
-value-at-enum-known-x-2 t c = search needs
-
 value-at-value-at-requires-3 : (t : ℕ) → value-at-lts.Need-value-at-requires-3 (claims t) (value-at-at t) value-at.Post
 value-at-value-at-requires-3 t c κs =
-    let e = sym ((c .before .before .before .before .before .before .before .node-at) .ensures) ∙ (c .before .before .before .before .before .op2) .given .1 in
-    let child = right-child ((c .before .before .before .before .before .before .before .before .before .before .pre) .1) _ _ _ _ e in
+    let e = sym ((c .before .before .before .before .node-at) .ensures) ∙ (c .before .before .op2) .given .1 in
+    let child = right-child ((c .before .before .before .before .before .before .before .pre) .1) _ _ _ _ e in
     (omega (arith, child .0), child .1)
-
-value-at-enum-known-y : (t : ℕ) → value-at-lts.Need-enum-known-y (claims t) (value-at-at t) value-at.Post
-value-at-enum-known-y t c = search needs
 
 value-at-size-at-requires-2 : (t : ℕ) → value-at-lts.Need-size-at-requires-2 (claims t) (value-at-at t) value-at.Post
 value-at-size-at-requires-2 t c κs =
-    let e = sym ((c .before .before .before .before .before .before .before .before .before .before .before .node-at) .ensures) ∙ (c .before .before .before .before .before .before .before .before .before .op2) .given .1 in
-    let child = left-child ((c .before .before .before .before .before .before .before .before .before .before .before .before .before .before .pre) .1) _ _ _ _ e .1 in
+    let e = sym ((c .before .before .before .before .before .node-at) .ensures) ∙ (c .before .before .before .op2) .given .1 in
+    let child = left-child ((c .before .before .before .before .before .before .before .before .pre) .1) _ _ _ _ e .1 in
     (child .live, child .below)
 
-value-at-bin-value-requires : (t : ℕ) → value-at-lts.Need-bin-value-requires (claims t) (value-at-at t) value-at.Post
-value-at-bin-value-requires t c κs =
-    let e = sym ((c .before .before .before .before .before .before .before .before .before .before .before .before .node-at) .ensures) ∙ (c .before .before .before .before .before .before .before .before .before .before .op2) .given .1 in
-    rw ((c .size-at2) .ensures)
-    (operands-fit ((c .before .before .before .before .before .before .before .before .before .before .before .before .before .before .before .pre) .1) _ _ _ _ e _ _ (sym ((c .before .before .before .before .before .before .before .before .value-at2) .ensures) ∙ (c .before .before .before .before .before .before .x2) .given .1) (sym ((c .before .before .before .before .value-at3) .ensures) ∙ (c .before .before .y) .given .1))
-
-value-at-enum-known-j-2 : (t : ℕ) → value-at-lts.Need-enum-known-j-2 (claims t) (value-at-at t) value-at.Post
-value-at-enum-known-j-2 t c = search needs
-
-value-at-enum-known-j-3 : (t : ℕ) → value-at-lts.Need-enum-known-j-3 (claims t) (value-at-at t) value-at.Post
-value-at-enum-known-j-3 t c = search needs
+value-at-over-two-requires : (t : ℕ) → value-at-lts.Need-over-two-requires (claims t) (value-at-at t) value-at.Post
+value-at-over-two-requires t c κs =
+    let e = sym ((c .before .before .before .before .before .before .node-at) .ensures) ∙ (c .before .before .before .before .op2) .given .1 in
+    rw ((c .size-at2) .ensures, (c .before .before .value-at2) .ensures, (c .before .value-at3) .ensures) (operands-fit ((c .before .before .before .before .before .before .before .before .before .pre) .1) _ _ _ _ e)
 
 value-at-returns : (t : ℕ) → value-at-lts.Need-returns (claims t) (value-at-at t) value-at.Post
 value-at-returns t c =
     let e = sym ((c .before .before .node-at) .ensures) ∙ (c .enum-told) .given .1 in
-    sym (answer-of-node ((c .before .before .before .before .before .pre) .1 .live) _ _ ((c .before .before .before .before .before .pre) .1 .below) _ e)
+    sym (answer-of-node ((c .before .before .before .before .before .pre) .1) _ e)
 
 value-at-returns-2 : (t : ℕ) → value-at-lts.Need-returns-2 (claims t) (value-at-at t) value-at.Post
 value-at-returns-2 t c =
     let e = sym ((c .before .before .before .node-at) .ensures) ∙ (c .before .enum-told2) .given .1 in
-    (c .input-at) .ensures ∙ sym (answer-of-node ((c .before .before .before .before .before .before .pre) .1 .live) _ _ ((c .before .before .before .before .before .before .pre) .1 .below) _ e)
+    (c .input-at) .ensures ∙ sym (answer-of-node ((c .before .before .before .before .before .before .pre) .1) _ e)
 
 value-at-returns-3 : (t : ℕ) → value-at-lts.Need-returns-3 (claims t) (value-at-at t) value-at.Post
 value-at-returns-3 t c =
     let e = sym ((c .before .before .before .node-at) .ensures) ∙ (c .before .value) .given .1 in
-    sym (answer-of-node ((c .before .before .before .before .before .before .pre) .1 .live) _ _ ((c .before .before .before .before .before .before .pre) .1 .below) _ e)
+    sym (answer-of-node ((c .before .before .before .before .before .before .pre) .1) _ e)
 
 value-at-returns-4 : (t : ℕ) → value-at-lts.Need-returns-4 (claims t) (value-at-at t) value-at.Post
 value-at-returns-4 t c =
     let e = sym ((c .before .before .before .node-at) .ensures) ∙ (c .before .enum-told3) .given .1 in
-    (c .input-at2) .ensures ∙ sym (answer-of-node ((c .before .before .before .before .before .before .pre) .1 .live) _ _ ((c .before .before .before .before .before .before .pre) .1 .below) _ e)
+    (c .input-at2) .ensures ∙ sym (answer-of-node ((c .before .before .before .before .before .before .pre) .1) _ e)
 
 value-at-returns-5 : (t : ℕ) → value-at-lts.Need-returns-5 (claims t) (value-at-at t) value-at.Post
 value-at-returns-5 t c =
-    let e = sym ((c .before .before .before .before .before .before .before .before .before .node-at) .ensures) ∙ (c .before .before .before .before .before .before .before .op) .given .1 in
-    rw (answer-of-node ((c .before .before .before .before .before .before .before .before .before .before .before .before .pre) .1 .live) _ _ ((c .before .before .before .before .before .before .before .before .before .before .before .before .pre) .1 .below) _ e, ← (c .before .before .before .before .before .value-at) .ensures, (c .before .before .before .x) .given .1, ← (c .before .size-at) .ensures, (c .un-value) .ensures)
+    let e = sym ((c .before .before .before .before .before .before .node-at) .ensures) ∙ (c .before .before .before .before .op) .given .1 in
+    rw (answer-of-node ((c .before .before .before .before .before .before .before .before .before .pre) .1) _ e, ← (c .before .size-at) .ensures, ← (c .before .before .value-at) .ensures) ((c .over-one) .ensures)
 
 value-at-returns-6 : (t : ℕ) → value-at-lts.Need-returns-6 (claims t) (value-at-at t) value-at.Post
 value-at-returns-6 t c =
-    let e = sym ((c .before .before .before .before .before .before .before .node-at) .ensures) ∙ (c .before .before .before .before .before .op) .given .1 in
-    rw (answer-of-node ((c .before .before .before .before .before .before .before .before .before .before .pre) .1 .live) _ _ ((c .before .before .before .before .before .before .before .before .before .before .pre) .1 .below) _ e, ← (c .before .before .before .value-at) .ensures, (c .before .j) .given .1)
-
-value-at-returns-7 : (t : ℕ) → value-at-lts.Need-returns-7 (claims t) (value-at-at t) value-at.Post
-value-at-returns-7 t c =
-    let e = sym ((c .before .before .before .before .before .before .before .before .before .before .before .before .before .node-at) .ensures) ∙ (c .before .before .before .before .before .before .before .before .before .before .before .op2) .given .1 in
-    rw (answer-of-node ((c .before .before .before .before .before .before .before .before .before .before .before .before .before .before .before .before .pre) .1 .live) _ _ ((c .before .before .before .before .before .before .before .before .before .before .before .before .before .before .before .before .pre) .1 .below) _ e, ← (c .before .before .before .before .before .before .before .before .before .value-at2) .ensures, (c .before .before .before .before .before .before .before .x2) .given .1, ← (c .before .before .before .before .before .value-at3) .ensures, (c .before .before .before .y) .given .1, ← (c .before .size-at2) .ensures, (c .bin-value) .ensures)
-
-value-at-returns-8 : (t : ℕ) → value-at-lts.Need-returns-8 (claims t) (value-at-at t) value-at.Post
-value-at-returns-8 t c =
-    let e = sym ((c .before .before .before .before .before .before .before .before .before .before .before .node-at) .ensures) ∙ (c .before .before .before .before .before .before .before .before .before .op2) .given .1 in
-    rw (answer-of-node ((c .before .before .before .before .before .before .before .before .before .before .before .before .before .before .pre) .1 .live) _ _ ((c .before .before .before .before .before .before .before .before .before .before .before .before .before .before .pre) .1 .below) _ e, ← (c .before .before .before .before .before .before .before .value-at2) .ensures, (c .before .before .before .before .before .x2) .given .1, ← (c .before .before .before .value-at3) .ensures, (c .before .j2) .given .1)
-
-value-at-returns-9 : (t : ℕ) → value-at-lts.Need-returns-9 (claims t) (value-at-at t) value-at.Post
-value-at-returns-9 t c =
     let e = sym ((c .before .before .before .before .before .before .before .node-at) .ensures) ∙ (c .before .before .before .before .before .op2) .given .1 in
-    rw (answer-of-node ((c .before .before .before .before .before .before .before .before .before .before .pre) .1 .live) _ _ ((c .before .before .before .before .before .before .before .before .before .before .pre) .1 .below) _ e, ← (c .before .before .before .value-at2) .ensures, (c .before .j3) .given .1)
+    rw (answer-of-node ((c .before .before .before .before .before .before .before .before .before .before .pre) .1) _ e, ← (c .before .size-at2) .ensures, ← (c .before .before .before .value-at2) .ensures, ← (c .before .before .value-at3) .ensures) ((c .over-two) .ensures)
 
 pub +value-at-spec : {M : Type 1} → statement M
 +value-at-spec = close μ-value-at λ t. value-at-lts.spec (claims t)
@@ -186,25 +152,16 @@ pub +value-at-spec : {M : Type 1} → statement M
     (value-at-input-at-requires-2 t)
     (value-at-enum-known-op t)
     (value-at-value-at-requires t)
-    (value-at-enum-known-x t)
     (value-at-size-at-requires t)
-    (value-at-un-value-requires t)
-    (value-at-enum-known-j t)
+    (value-at-over-one-requires t)
     (value-at-enum-known-op-2 t)
     (value-at-value-at-requires-2 t)
-    (value-at-enum-known-x-2 t)
     (value-at-value-at-requires-3 t)
-    (value-at-enum-known-y t)
     (value-at-size-at-requires-2 t)
-    (value-at-bin-value-requires t)
-    (value-at-enum-known-j-2 t)
-    (value-at-enum-known-j-3 t)
+    (value-at-over-two-requires t)
     (value-at-returns t)
     (value-at-returns-2 t)
     (value-at-returns-3 t)
     (value-at-returns-4 t)
     (value-at-returns-5 t)
     (value-at-returns-6 t)
-    (value-at-returns-7 t)
-    (value-at-returns-8 t)
-    (value-at-returns-9 t)

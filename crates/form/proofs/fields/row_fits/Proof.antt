@@ -20,7 +20,13 @@ space-of-requires c κs = search needs
 
 returns : tie.Need-returns
 returns c =
-    rw (c .before .before .before .before .before .before .below-if-used .ensures, c .before .before .before .before .before .before .before .left-of .ensures, c .before .before .before .below-if-used2 .ensures, c .before .before .before .before .right-of .ensures, c .before .before .space-of .ensures)
+    rw (
+      c .before .before .before .before .before .before .below-if-used .ensures,
+      c .before .before .before .before .before .before .before .left-of .ensures,
+      c .before .before .before .below-if-used2 .ensures,
+      c .before .before .before .before .right-of .ensures,
+      c .before .before .space-of .ensures,
+    )
 
 pub row-fits-spec : {M : Type 1} → statement M
 row-fits-spec =

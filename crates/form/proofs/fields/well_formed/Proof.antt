@@ -42,7 +42,9 @@ row-fits-requires c κs = search needs
 returns-2 : tie.Need-returns-2
 unfolding wellFormed
 returns-2 c =
-    rw (lt-ltb _ _ (rw (c .before .before .before .before .kind-of .ensures) at (c .before .before .before .if1 .left)), ← c .before .before .before .before .kind-of .ensures, ← c .before .before .row-of .ensures) (c .row-fits .ensures)
+    let kind = c .before .before .before .before .kind-of in
+    let known = lt-ltb _ _ (rw (kind .ensures) at (c .before .before .before .if1 .left)) in
+    rw (known, ← kind .ensures, ← c .before .before .row-of .ensures) (c .row-fits .ensures)
 
 pub well-formed-spec : {M : Type 1} → statement M
 well-formed-spec =

@@ -37,7 +37,9 @@ path-within-returns t c =
     no-path (a .most) (c .if1 .taken) (treeOf (a .count) (a .words .now) (a .i))
 
 path-within-children-at-requires : (t : ℕ) → path-within-lts.Need-children-at-requires (claims t) (path-within-at t) path-within.Post
-path-within-children-at-requires t c κs = node-inside (c .before .before .pre .1 .live) _ (c .before .before .pre .1 .below)
+path-within-children-at-requires t c κs =
+    let start = c .before .before in
+    node-inside (start .pre .1 .live) (start .args .i) (start .pre .1 .below)
 
 path-within-enum-told : (t : ℕ) → path-within-lts.Need-enum-told (claims t) (path-within-at t) path-within.Post
 path-within-enum-told t c = search needs
@@ -50,8 +52,9 @@ path-within-sub-path-within t c = omega arith
 
 path-within-path-within-requires : (t : ℕ) → path-within-lts.Need-path-within-requires (claims t) (path-within-at t) path-within.Post
 path-within-path-within-requires t c κs =
-    let below = children-below (c .before .before .before .before .before .before .pre .1) _ (sym (c .before .before .before .children-at .ensures) ∙ c .before .left .given .1) in
-    down (c .before .before .before .before .before .before .pre .1) (c .before .before .before .before .before .before .pre .0) below
+    let start = c .before .before .before .before .before .before in
+    let read = sym (c .before .before .before .children-at .ensures) ∙ c .before .left .given .1 in
+    down (start .pre .1) (start .pre .0) (children-below (start .pre .1) _ read)
 
 path-within-enum-known-left-2 : (t : ℕ) → path-within-lts.Need-enum-known-left-2 (claims t) (path-within-at t) path-within.Post
 path-within-enum-known-left-2 t c = search needs
@@ -61,36 +64,46 @@ path-within-sub-path-within-2 t c = omega arith
 
 path-within-path-within-requires-2 : (t : ℕ) → path-within-lts.Need-path-within-requires-2 (claims t) (path-within-at t) path-within.Post
 path-within-path-within-requires-2 t c κs =
-    let below = children-below (c .before .before .before .before .before .before .pre .1) _ (sym (c .before .before .before .children-at .ensures) ∙ c .before .left2 .given .1) in
-    down (c .before .before .before .before .before .before .pre .1) (c .before .before .before .before .before .before .pre .0) (below .0)
+    let start = c .before .before .before .before .before .before in
+    let read = sym (c .before .before .before .children-at .ensures) ∙ c .before .left2 .given .1 in
+    down (start .pre .1) (start .pre .0) (children-below (start .pre .1) _ read .0)
 
 path-within-returns-2 : (t : ℕ) → path-within-lts.Need-returns-2 (claims t) (path-within-at t) path-within.Post
 path-within-returns-2 t c =
+    let start = c .before .before .before .before .before .before .before .before in
     let read = sym (c .before .before .before .before .before .children-at .ensures) ∙ c .before .before .before .left2 .given .1 in
-    let over = sym (c .before .path-within2 .ensures) ∙ not-true (c .before .path-within2 .result) (c .if2 .taken) in
-    path-left-over (c .before .before .before .before .before .before .before .before .pre .1) _ (c .before .before .before .before .before .before .if1 .left) _ _ read over
+    let left = c .before .path-within2 in
+    let over = sym (left .ensures) ∙ not-true (left .result) (c .if2 .taken) in
+    path-left-over (start .pre .1) _ (c .before .before .before .before .before .before .if1 .left) _ _ read over
 
 path-within-sub-path-within-3 : (t : ℕ) → path-within-lts.Need-sub-path-within-3 (claims t) (path-within-at t) path-within.Post
 path-within-sub-path-within-3 t c = omega arith
 
 path-within-path-within-requires-3 : (t : ℕ) → path-within-lts.Need-path-within-requires-3 (claims t) (path-within-at t) path-within.Post
 path-within-path-within-requires-3 t c κs =
-    let below = children-below (c .before .before .before .before .before .before .before .before .pre .1) _ (sym (c .before .before .before .before .before .children-at .ensures) ∙ c .before .before .before .left2 .given .1) in
-    down (c .before .before .before .before .before .before .before .before .pre .1) (c .before .before .before .before .before .before .before .before .pre .0) (below .1)
+    let start = c .before .before .before .before .before .before .before .before in
+    let read = sym (c .before .before .before .before .before .children-at .ensures) ∙ c .before .before .before .left2 .given .1 in
+    down (start .pre .1) (start .pre .0) (children-below (start .pre .1) _ read .1)
 
 path-within-returns-3 : (t : ℕ) → path-within-lts.Need-returns-3 (claims t) (path-within-at t) path-within.Post
-path-within-returns-3 t c = path-leaf (c .before .before .before .before .before .pre .1) _ (c .before .before .before .if1 .left) (sym (c .before .before .children-at .ensures) ∙ c .enum-told .given .1)
+path-within-returns-3 t c =
+    let start = c .before .before .before .before .before in
+    let read = sym (c .before .before .children-at .ensures) ∙ c .enum-told .given .1 in
+    path-leaf (start .pre .1) _ (c .before .before .before .if1 .left) read
 
 path-within-returns-4 : (t : ℕ) → path-within-lts.Need-returns-4 (claims t) (path-within-at t) path-within.Post
 path-within-returns-4 t c =
+    let start = c .before .before .before .before .before .before .before in
     let read = sym (c .before .before .before .before .children-at .ensures) ∙ c .before .before .left .given .1 in
-    c .path-within .ensures ∙ path-through (c .before .before .before .before .before .before .before .pre .1) _ (c .before .before .before .before .before .if1 .left) _ read
+    c .path-within .ensures ∙ path-through (start .pre .1) _ (c .before .before .before .before .before .if1 .left) _ read
 
 path-within-returns-5 : (t : ℕ) → path-within-lts.Need-returns-5 (claims t) (path-within-at t) path-within.Post
 path-within-returns-5 t c =
+    let start = c .before .before .before .before .before .before .before .before .before in
     let read = sym (c .before .before .before .before .before .before .children-at .ensures) ∙ c .before .before .before .before .left2 .given .1 in
-    let left = sym (c .before .before .path-within2 .ensures) ∙ not-false (c .before .before .path-within2 .result) (c .before .if2 .left) in
-    c .path-within3 .ensures ∙ path-right (c .before .before .before .before .before .before .before .before .before .pre .1) _ (c .before .before .before .before .before .before .before .if1 .left) _ _ read left
+    let left = c .before .before .path-within2 in
+    let passed = sym (left .ensures) ∙ not-false (left .result) (c .before .if2 .left) in
+    c .path-within3 .ensures ∙ path-right (start .pre .1) _ (c .before .before .before .before .before .before .before .if1 .left) _ _ read passed
 
 pub +path-within-spec : {M : Type 1} → statement M
 +path-within-spec = close μ-path-within λ t. path-within-lts.spec (claims t)

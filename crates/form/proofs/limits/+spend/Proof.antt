@@ -34,7 +34,9 @@ spend-returns t c =
     nothing-left (a .budget) (c .if1 .taken) (treeOf (a .count) (a .words .now) (a .i))
 
 spend-children-at-requires : (t : ℕ) → spend-lts.Need-children-at-requires (claims t) (spend-at t) spend.Post
-spend-children-at-requires t c κs = node-inside (c .before .before .pre .1 .live) _ (c .before .before .pre .1 .below)
+spend-children-at-requires t c κs =
+    let start = c .before .before in
+    node-inside (start .pre .1 .live) (start .args .i) (start .pre .1 .below)
 
 spend-enum-told : (t : ℕ) → spend-lts.Need-enum-told (claims t) (spend-at t) spend.Post
 spend-enum-told t c = search needs
@@ -50,8 +52,9 @@ spend-sub-spend t c = omega arith
 
 spend-spend-requires : (t : ℕ) → spend-lts.Need-spend-requires (claims t) (spend-at t) spend.Post
 spend-spend-requires t c κs =
-    let below = children-below (c .before .before .before .before .before .before .pre .1) _ (sym (c .before .before .before .children-at .ensures) ∙ c .before .left .given .1) in
-    down (c .before .before .before .before .before .before .pre .1) (c .before .before .before .before .before .before .pre .0) below
+    let start = c .before .before .before .before .before .before in
+    let read = sym (c .before .before .before .children-at .ensures) ∙ c .before .left .given .1 in
+    down (start .pre .1) (start .pre .0) (children-below (start .pre .1) _ read)
 
 spend-enum-known-left-2 : (t : ℕ) → spend-lts.Need-enum-known-left-2 (claims t) (spend-at t) spend.Post
 spend-enum-known-left-2 t c = search needs
@@ -61,39 +64,47 @@ spend-sub-spend-2 t c = omega arith
 
 spend-spend-requires-2 : (t : ℕ) → spend-lts.Need-spend-requires-2 (claims t) (spend-at t) spend.Post
 spend-spend-requires-2 t c κs =
-    let below = children-below (c .before .before .before .before .before .before .pre .1) _ (sym (c .before .before .before .children-at .ensures) ∙ c .before .left2 .given .1) in
-    down (c .before .before .before .before .before .before .pre .1) (c .before .before .before .before .before .before .pre .0) (below .0)
+    let start = c .before .before .before .before .before .before in
+    let read = sym (c .before .before .before .children-at .ensures) ∙ c .before .left2 .given .1 in
+    down (start .pre .1) (start .pre .0) (children-below (start .pre .1) _ read .0)
 
 spend-enum-known-rest : (t : ℕ) → spend-lts.Need-enum-known-rest (claims t) (spend-at t) spend.Post
 spend-enum-known-rest t c = search needs
 
 spend-spend-requires-3 : (t : ℕ) → spend-lts.Need-spend-requires-3 (claims t) (spend-at t) spend.Post
 spend-spend-requires-3 t c κs =
-    let below = children-below (c .before .before .before .before .before .before .before .before .before .before .pre .1) _ (sym (c .before .before .before .before .before .before .before .children-at .ensures) ∙ c .before .before .before .before .before .left2 .given .1) in
-    down (c .before .before .before .before .before .before .before .before .before .before .pre .1) (c .before .before .before .before .before .before .before .before .before .before .pre .0) (below .1)
+    let start = c .before .before .before .before .before .before .before .before .before .before in
+    let read = sym (c .before .before .before .before .before .before .before .children-at .ensures) ∙ c .before .before .before .before .before .left2 .given .1 in
+    down (start .pre .1) (start .pre .0) (children-below (start .pre .1) _ read .1)
 
 spend-enum-told-2 : (t : ℕ) → spend-lts.Need-enum-told-2 (claims t) (spend-at t) spend.Post
 spend-enum-told-2 t c = search needs
 
 spend-returns-2 : (t : ℕ) → spend-lts.Need-returns-2 (claims t) (spend-at t) spend.Post
-spend-returns-2 t c = spend-leaf (c .before .before .before .before .before .pre .1) _ (c .before .before .before .if1 .left) (sym (c .before .before .children-at .ensures) ∙ c .enum-told .given .1)
+spend-returns-2 t c =
+    let start = c .before .before .before .before .before in
+    let read = sym (c .before .before .children-at .ensures) ∙ c .enum-told .given .1 in
+    spend-leaf (start .pre .1) _ (c .before .before .before .if1 .left) read
 
 spend-returns-3 : (t : ℕ) → spend-lts.Need-returns-3 (claims t) (spend-at t) spend.Post
 spend-returns-3 t c =
+    let start = c .before .before .before .before .before .before .before in
     let read = sym (c .before .before .before .before .children-at .ensures) ∙ c .before .before .left .given .1 in
-    c .spend .ensures ∙ spend-one (c .before .before .before .before .before .before .before .pre .1) _ (c .before .before .before .before .before .if1 .left) _ read
+    c .spend .ensures ∙ spend-one (start .pre .1) _ (c .before .before .before .before .before .if1 .left) _ read
 
 spend-returns-4 : (t : ℕ) → spend-lts.Need-returns-4 (claims t) (spend-at t) spend.Post
 spend-returns-4 t c =
+    let start = c .before .before .before .before .before .before .before .before .before .before .before in
     let read = sym (c .before .before .before .before .before .before .before .before .children-at .ensures) ∙ c .before .before .before .before .before .before .left2 .given .1 in
     let rest = sym (c .before .before .rest .given .1) ∙ c .before .before .before .before .spend2 .ensures in
-    c .spend3 .ensures ∙ spend-two (c .before .before .before .before .before .before .before .before .before .before .before .pre .1) _ (c .before .before .before .before .before .before .before .before .before .if1 .left) _ _ read _ rest
+    c .spend3 .ensures ∙ spend-two (start .pre .1) _ (c .before .before .before .before .before .before .before .before .before .if1 .left) _ _ read _ rest
 
 spend-returns-5 : (t : ℕ) → spend-lts.Need-returns-5 (claims t) (spend-at t) spend.Post
 spend-returns-5 t c =
+    let start = c .before .before .before .before .before .before .before .before .before in
     let read = sym (c .before .before .before .before .before .before .children-at .ensures) ∙ c .before .before .before .before .left2 .given .1 in
     let over = sym (c .enum-told2 .given .1) ∙ c .before .before .spend2 .ensures in
-    spend-over (c .before .before .before .before .before .before .before .before .before .pre .1) _ (c .before .before .before .before .before .before .before .if1 .left) _ _ read over
+    spend-over (start .pre .1) _ (c .before .before .before .before .before .before .before .if1 .left) _ _ read over
 
 pub +spend-spec : {M : Type 1} → statement M
 +spend-spec = close μ-spend λ t. spend-lts.spec (claims t)

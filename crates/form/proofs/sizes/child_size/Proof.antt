@@ -10,27 +10,38 @@ returns : tie.Need-returns
 returns c = rw (not-true (c .before .before .args .used) (c .if1 .taken))
 
 mul-word : tie.Need-mul-word
-mul-word c = let h = c .before .before .pre (not-false (c .before .before .args .used) (c .if1 .left)) in omega arith
+mul-word c =
+    let start = c .before .before in
+    let inside = start .pre (not-false (start .args .used) (c .if1 .left)) in
+    omega arith
 
 mul-word-2 : tie.Need-mul-word-2
-mul-word-2 c = let h = c .before .before .pre (not-false (c .before .before .args .used) (c .if1 .left)) in omega arith
+mul-word-2 c =
+    let start = c .before .before in
+    let inside = start .pre (not-false (start .args .used) (c .if1 .left)) in
+    omega arith
 
 shared-slice-read-word : tie.Need-shared-slice-read-word
-shared-slice-read-word c = let h = c .before .before .before .pre (not-false (c .before .before .before .args .used) (c .before .if1 .left)) in omega arith
+shared-slice-read-word c =
+    let start = c .before .before .before in
+    let inside = start .pre (not-false (start .args .used) (c .before .if1 .left)) in
+    omega arith
 
 kind-of-requires : tie.Need-kind-of-requires
 kind-of-requires c κs = search needs
 
 returns-2 : tie.Need-returns-2
 returns-2 c =
-    rw (not-false (c .before .before .before .before .before .args .used) (c .before .before .before .if1 .left), eq-eqb _ 0 (rw (c .before .kind-of .ensures) at (c .if2 .taken)))
+    let top = eq-eqb _ 0 (rw (c .before .kind-of .ensures) at (c .if2 .taken)) in
+    rw (not-false (c .before .before .before .before .before .args .used) (c .before .before .before .if1 .left), top)
 
 size-of-requires : tie.Need-size-of-requires
 size-of-requires c κs = search needs
 
 returns-3 : tie.Need-returns-3
 returns-3 c =
-    rw (not-false (c .before .before .before .before .before .before .args .used) (c .before .before .before .before .if1 .left), ne-eqb _ 0 (λ e. c .before .if2 .left (c .before .before .kind-of .ensures ∙ e)), c .size-of .ensures)
+    let other = ne-eqb _ 0 (λ e. c .before .if2 .left (c .before .before .kind-of .ensures ∙ e)) in
+    rw (not-false (c .before .before .before .before .before .before .args .used) (c .before .before .before .before .if1 .left), other, c .size-of .ensures)
 
 pub child-size-spec : {M : Type 1} → statement M
 child-size-spec =

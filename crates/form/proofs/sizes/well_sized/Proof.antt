@@ -1,7 +1,8 @@
 -- A well-formed node has its line and its children, and the rule is the definition's. Assumes nothing.
 use borrow.Author.Needs.{needs}
+use mathlib.Core.Path.{_∙_}
 use Rattle.formed.specs.Fits.{kind-known, left-inside, right-inside}
-use Rattle.tree.specs.Form.{wellSized}
+use Rattle.form.specs.Sizes.{sized-by-parts}
 use Rattle.form.proofs.sizes.well_sized.Statement.{statement}
 use Rattle.form.proofs.sizes.well_sized.Tie as tie
 
@@ -25,14 +26,17 @@ left-of-requires c κs = search needs
 
 child-size-requires : tie.Need-child-size-requires
 child-size-requires c κs =
-    rw (c .left-of .ensures, c .before .before .row-of .ensures, c .before .before .before .kind-of .ensures) (left-inside _ _ (c .before .before .before .before .before .before .pre .1) (c .before .before .before .before .before .before .pre .0))
+    let start = c .before .before .before .before .before .before in
+    rw (c .left-of .ensures, c .before .before .row-of .ensures, c .before .before .before .kind-of .ensures) (left-inside _ _ (start .pre .1) (start .pre .0))
 
 right-of-requires : tie.Need-right-of-requires
 right-of-requires c κs = search needs
 
 child-size-requires-2 : tie.Need-child-size-requires-2
 child-size-requires-2 c κs =
-    rw (c .right-of .ensures, c .before .before .before .before .before .row-of .ensures, c .before .before .before .before .before .before .kind-of .ensures) (right-inside _ _ (c .before .before .before .before .before .before .before .before .before .pre .1) (c .before .before .before .before .before .before .before .before .before .pre .0))
+    let start = c .before .before .before .before .before .before .before .before .before in
+    rw (c .right-of .ensures, c .before .before .before .before .before .row-of .ensures, c .before .before .before .before .before .before .kind-of .ensures)
+    (right-inside _ _ (start .pre .1) (start .pre .0))
 
 size-of-requires : tie.Need-size-of-requires
 size-of-requires c κs = search needs
@@ -53,9 +57,16 @@ sized-requires : tie.Need-sized-requires
 sized-requires c κs = search needs
 
 returns : tie.Need-returns
-unfolding wellSized
 returns c =
-    rw (c .sized .ensures, c .before .before .size-of .ensures, c .before .before .before .child-size2 .ensures, c .before .before .before .before .right-of .ensures, c .before .before .before .before .before .before .child-size .ensures, c .before .before .before .before .before .before .before .left-of .ensures, c .before .before .before .before .before .before .before .before .before .row-of .ensures, c .before .before .before .before .before .before .before .before .before .before .kind-of .ensures)
+    c .sized .ensures
+    ∙ sized-by-parts _ _ _ _ _ _ _ _ _
+    (c .before .before .before .before .before .before .before .before .before .before .kind-of .ensures)
+    (c .before .before .before .before .before .before .before .before .before .row-of .ensures)
+    (c .before .before .before .before .before .before .before .left-of .ensures)
+    (c .before .before .before .before .before .before .child-size .ensures)
+    (c .before .before .before .before .right-of .ensures)
+    (c .before .before .before .child-size2 .ensures)
+    (c .before .before .size-of .ensures)
 
 pub well-sized-spec : {M : Type 1} → statement M
 well-sized-spec =

@@ -3,8 +3,8 @@ use borrow.Author.Needs.{needs}
 use mathlib.Core.Path.{sym, _∙_}
 use Rattle.arena.specs.Live.{treeOf}
 use Rattle.form.specs.Walks.{too-many, passed, too-long}
-use Rattle.form.proofs.limits.within.Statement.{statement}
-use Rattle.form.proofs.limits.within.Tie as tie
+use Rattle.form.proofs.limits.limited.Statement.{statement}
+use Rattle.form.proofs.limits.limited.Tie as tie
 
 spend-requires : tie.Need-spend-requires
 spend-requires c κs = search needs
@@ -35,8 +35,8 @@ returns-3 c =
     let left = sym (c .before .before .enum-told2 .given .1) ∙ c .before .before .before .before .spend .ensures in
     too-long (treeOf (a .count) (a .words .now) (a .root)) _ left (sym (c .if1 .left) ∙ c .before .path-within .ensures)
 
-pub within-spec : {M : Type 1} → statement M
-within-spec =
+pub limited-spec : {M : Type 1} → statement M
+limited-spec =
     tie.close
     (tie.spec
     spend-requires

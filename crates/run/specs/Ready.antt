@@ -1,0 +1,191 @@
+-- What is known of a node once its children are simplified, and what its visit then is. Assumes nothing.
+use mathlib.Core.Bool.{Bool, true, false, _||_}
+use mathlib.Core.List.{List}
+use mathlib.Core.Path.{_≡_, refl, ap, ap₂, sym, _∙_}
+use Prim.Native.Nat.{ℕ, _*_, _+_, _≤_, _<_}
+use native.Mathlib.Omega.{arith}
+use lib.ListN.{length}
+use Rattle.acts.specs.Operated.{UnaryOver, BinaryOver}
+use Rattle.arena.specs.Ended.{Ended}
+use Rattle.arena.specs.Live.{Live, New, treeOf, nodeIsTop}
+use Rattle.arena.specs.LiveLaws.{live-ordered, top-at, tree-of-node}
+use Rattle.arena.specs.declared.Step.{Step}
+use Rattle.format.specs.Truth.{or-left, or-right, or-neither}
+use Rattle.format.specs.declared.Bin.{Bin}
+use Rattle.format.specs.declared.ChildSize.{ChildSize}
+use Rattle.format.specs.declared.Node.{Node}
+use Rattle.format.specs.declared.Un.{Un}
+use Rattle.rules.specs.Run.{Out, out, unaryRun, binaryRun, weight, simplified}
+use Rattle.run.specs.Chains.{after-run, ended-here, unary-child, unary-ended, unary-lighter, binary-children, binary-ended, binary-lighter, right-lighter}
+use Rattle.run.specs.Visits.{OneAt, TwoAt}
+use Rattle.theory.specs.Normal.{normal-top}
+use Rattle.theory.specs.Reduced.{reduced-normal, reduced-top}
+use Rattle.theory.specs.Simulation.{simplified-stands}
+use Rattle.theory.specs.TreeRun.{reduced}
+use Rattle.theory.specs.Values.{over-reduced-one, over-reduced-two}
+use Rattle.theory.specs.Visits.{leaf-top, leaf-entry, leaf-const, leaf-bind}
+use Rattle.tree.specs.Arena.{nodeAt, nodesOf, treeAt}
+use Rattle.tree.specs.ArenaLaws.{length-nodesOf, at-nodesOf, tree-stays}
+use Rattle.tree.specs.Form.{Sized, sized, unSizing, binSizing, sizeSeen}
+use Rattle.tree.specs.Tree.{Tree, unary, binary, isTop, hasTop}
+
+-- node i has the child j, which has become a: where that is not Top, no Top is reached from it, and the node over it is well sized
+pub record OneReady (words : List ℕ) (count i : ℕ) (op : Un) (s j a : ℕ) : Type 0 where
+  pub below : i < count
+  pub node-is : nodeAt words i ≡ Node.Unary op s j
+  pub child-below : a < count
+  pub child-top : isTop (treeOf count words a) ≡ hasTop (treeOf count words a)
+  pub sized-over : isTop (treeOf count words a) ≡ false → sized (unSizing op) s 0 (sizeSeen (treeOf count words a)) ChildSize.Absent ≡ true
+
+pub record TwoReady (words : List ℕ) (count i : ℕ) (op : Bin) (s j k a b : ℕ) : Type 0 where
+  pub below : i < count
+  pub node-is : nodeAt words i ≡ Node.Binary op s j k
+  pub left-below : a < count
+  pub right-below : b < count
+  pub left-top : isTop (treeOf count words a) ≡ hasTop (treeOf count words a)
+  pub right-top : isTop (treeOf count words b) ≡ hasTop (treeOf count words b)
+  pub sized-over : isTop (treeOf count words a) ≡ false → isTop (treeOf count words b) ≡ false →
+      sized (binSizing op) s 0 (sizeSeen (treeOf count words a)) (sizeSeen (treeOf count words b)) ≡ true
+
+-- the rest of the visit
+abbrev pub afterOne : List ℕ → (count i : ℕ) → Un → (s j a : ℕ) → Out
+afterOne words count i op s j a = unaryRun simplified (isTop (treeOf count words a)) i op s j (nodesOf count words) a
+
+abbrev pub afterTwo : List ℕ → (count i : ℕ) → Bin → (s j k a b : ℕ) → Out
+afterTwo words count i op s j k a b =
+    binaryRun simplified (isTop (treeOf count words a) || isTop (treeOf count words b)) i op s j k (nodesOf count words) a b
+
+pub new-top : (arena : List Node) → New arena Node.Top
+new-top arena = record { below = tt; narrow = tt; sized = tt }
+
+-- NOT TOP, so the rule may look
+
+pub one-at : {words : List ℕ} {count i : ℕ} {op : Un} {s j a : ℕ} → OneReady words count i op s j a → isTop (treeOf count words a) ≡ false → OneAt words count i op s j a
+one-at r e = record {
+  below = r .below;
+  node-is = r .node-is;
+  over = record { below = r .child-below; topless = sym (r .child-top) ∙ e; sized-over = r .sized-over e };
+}
+
+pub two-at : {words : List ℕ} {count i : ℕ} {op : Bin} {s j k a b : ℕ} → TwoReady words count i op s j k a b → isTop (treeOf count words a) ≡ false →
+    isTop (treeOf count words b) ≡ false → TwoAt words count i op s j k a b
+two-at r e f = record {
+  below = r .below;
+  node-is = r .node-is;
+  over = record {
+    left-below = r .left-below;
+    right-below = r .right-below;
+    left-topless = sym (r .left-top) ∙ e;
+    right-topless = sym (r .right-top) ∙ f;
+    sized-over = r .sized-over e f;
+  };
+}
+
+-- what the test of a node that was read tells of its tree
+pub top-read : {words : List ℕ} {count : ℕ} → Live words count → (a : ℕ) → a < count → (node : Node) (test answer : Bool) → node ≡ nodeAt words a → test ≡ nodeIsTop node →
+    test ≡ answer → isTop (treeOf count words a) ≡ answer
+top-read live a h node test answer p q r = top-at live a h ∙ ap nodeIsTop (sym p) ∙ sym q ∙ r
+
+-- THE CHILDREN ARE REDUCED TREES
+
+reduced-isTop : (t : Tree) → isTop (reduced t) ≡ hasTop (reduced t)
+reduced-isTop t = normal-top (reduced t) (reduced-normal t)
+
+module _ {words : List ℕ} {n : ℕ} (live : Live words n) (i : ℕ) (hi : i < n) where
+  module _ (op : Un) (s j : ℕ) (e : nodeAt words i ≡ Node.Unary op s j) (mid : List ℕ) (a m : ℕ) (h : Ended words mid n (simplified (nodesOf n words) j) (Step.Done a m)) where
+    inside : (x : ℕ) → x < n → x < length (nodesOf n words)
+    inside x b = omega (arith, length-nodesOf n words)
+
+    child-is : treeOf m mid a ≡ reduced (treeOf n words j)
+    child-is = rw (h .ran .nodes-are, h .ran .root-is) (simplified-stands (nodesOf n words) (live-ordered live) j (inside j (unary-child live i hi op s j e .0)) .is)
+
+    node-sized : Sized (unary op s (treeOf n words j))
+    node-sized = rw (tree-of-node live i hi (Node.Unary op s j) e) at (live .sized i hi)
+
+    free : isTop (treeOf m mid a) ≡ false → hasTop (treeOf n words j) ≡ false
+    free q = sym (reduced-top (treeOf n words j)) ∙ ap isTop (sym child-is) ∙ q
+
+    pub one-ready : OneReady mid m i op s j a
+    one-ready =
+        let f = after-run live i j a m hi (unary-child live i hi op s j e .0) h in
+        record {
+          below = omega (arith, f .more);
+          node-is = f .same-node ∙ e;
+          child-below = f .below;
+          child-top = rw child-is (reduced-isTop (treeOf n words j));
+          sized-over = λ q. rw child-is (over-reduced-one op s (treeOf n words j) node-sized (free q) .0);
+        }
+
+  module _ (op : Bin) (s j k : ℕ) (e : nodeAt words i ≡ Node.Binary op s j k) (mid : List ℕ) (a m : ℕ) (h : Ended words mid n (simplified (nodesOf n words) j) (Step.Done a m)) where
+    abbrev kids : (j < n) × (k < n) × (weight (treeOf n words j) < weight (treeOf n words i))
+    kids = binary-children live i hi op s j k e
+
+    in-first : (x : ℕ) → x < n → x < length (nodesOf n words)
+    in-first x b = omega (arith, length-nodesOf n words)
+
+    -- the right child may be simplified
+    pub right-child : Live mid m × (k < m)
+    right-child =
+        let f = after-run live i j a m hi (kids .0) h in
+        (f .live, omega (arith, f .more, kids .1))
+
+    left-is : treeOf m mid a ≡ reduced (treeOf n words j)
+    left-is = rw (h .ran .nodes-are, h .ran .root-is) (simplified-stands (nodesOf n words) (live-ordered live) j (in-first j (kids .0)) .is)
+
+    right-same : treeOf m mid k ≡ treeOf n words k
+    right-same = rw (h .ran .nodes-are) (tree-stays (live-ordered live) (simplified-stands (nodesOf n words) (live-ordered live) j (in-first j (kids .0)) .extends) (in-first k (kids .1)))
+
+    module _ (late : List ℕ) (c p : ℕ) (g : Ended mid late m (simplified (nodesOf m mid) k) (Step.Done c p)) where
+      in-second : (x : ℕ) → x < m → x < length (nodesOf m mid)
+      in-second x b = omega (arith, length-nodesOf m mid)
+
+      right-is : treeOf p late c ≡ reduced (treeOf n words k)
+      right-is =
+          rw (g .ran .nodes-are, g .ran .root-is) (simplified-stands (nodesOf m mid) (live-ordered (right-child .0)) k (in-second k (right-child .1)) .is) ∙ ap reduced right-same
+
+      left-stays : treeOf p late a ≡ reduced (treeOf n words j)
+      left-stays =
+          let f = after-run live i j a m hi (kids .0) h in
+          rw (g .ran .nodes-are) (tree-stays (live-ordered (right-child .0)) (simplified-stands (nodesOf m mid) (live-ordered (right-child .0)) k (in-second k (right-child .1)) .extends) (in-second a (f .below))) ∙ left-is
+
+      both-sized : Sized (binary op s (treeOf n words j) (treeOf n words k))
+      both-sized = rw (tree-of-node live i hi (Node.Binary op s j k) e) at (live .sized i hi)
+
+      both-free : isTop (treeOf p late a) ≡ false → isTop (treeOf p late c) ≡ false → (hasTop (treeOf n words j) || hasTop (treeOf n words k)) ≡ false
+      both-free q r =
+          or-neither _ _ (sym (reduced-top (treeOf n words j)) ∙ ap isTop (sym left-stays) ∙ q) (sym (reduced-top (treeOf n words k)) ∙ ap isTop (sym right-is) ∙ r)
+
+      pub two-ready : TwoReady late p i op s j k a c
+      two-ready =
+          let f = after-run live i j a m hi (kids .0) h in
+          let f′ = after-run (f .live) i k c p (omega (arith, f .more)) (right-child .1) g in
+          record {
+            below = omega (arith, f .more, f′ .more);
+            node-is = f′ .same-node ∙ f .same-node ∙ e;
+            left-below = omega (arith, f .below, f′ .more);
+            right-below = f′ .below;
+            left-top = rw left-stays (reduced-isTop (treeOf n words j));
+            right-top = rw right-is (reduced-isTop (treeOf n words k));
+            sized-over = λ q r. rw (left-stays, right-is) (over-reduced-two op s (treeOf n words j) (treeOf n words k) both-sized (both-free q r) .0);
+          }
+
+-- A LEAF IS ITSELF
+
+module _ {words : List ℕ} {n : ℕ} (live : Live words n) (i : ℕ) (hi : i < n) where
+  at-leaf : i < length (nodesOf n words)
+  at-leaf = omega (arith, length-nodesOf n words)
+
+  here : simplified (nodesOf n words) i ≡ out (nodesOf n words) i → Ended words words n (simplified (nodesOf n words) i) (Step.Done i n)
+  here e = rw e (ended-here live i hi)
+
+  pub ended-top : nodeAt words i ≡ Node.Top → Ended words words n (simplified (nodesOf n words) i) (Step.Done i n)
+  ended-top e = here (leaf-top (nodesOf n words) (live-ordered live) i at-leaf (at-nodesOf n words i hi ∙ e))
+
+  pub ended-entry : {s sp o : ℕ} → nodeAt words i ≡ Node.Entry s sp o → Ended words words n (simplified (nodesOf n words) i) (Step.Done i n)
+  ended-entry e = here (leaf-entry (nodesOf n words) (live-ordered live) i at-leaf (at-nodesOf n words i hi ∙ e))
+
+  pub ended-const : {s v : ℕ} → nodeAt words i ≡ Node.Const s v → Ended words words n (simplified (nodesOf n words) i) (Step.Done i n)
+  ended-const e = here (leaf-const (nodesOf n words) (live-ordered live) i at-leaf (at-nodesOf n words i hi ∙ e))
+
+  pub ended-bind : {s d : ℕ} → nodeAt words i ≡ Node.Bind s d → Ended words words n (simplified (nodesOf n words) i) (Step.Done i n)
+  ended-bind e = here (leaf-bind (nodesOf n words) (live-ordered live) i at-leaf (at-nodesOf n words i hi ∙ e))
