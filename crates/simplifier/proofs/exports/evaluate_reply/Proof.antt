@@ -1,0 +1,53 @@
+-- An answer's number, place and value. Assumes nothing.
+use borrow.Author.Needs.{needs}
+use Rattle.simplifier.proofs.exports.evaluate_reply.Statement.{statement}
+use Rattle.simplifier.proofs.exports.evaluate_reply.Tie as tie
+
+enum-known-answer : tie.Need-enum-known-answer
+enum-known-answer c = search needs
+
+enum-known-answer-2 : tie.Need-enum-known-answer-2
+enum-known-answer-2 c = search needs
+
+check-reply-requires : tie.Need-check-reply-requires
+check-reply-requires c κs = search needs
+
+enum-known-answer-3 : tie.Need-enum-known-answer-3
+enum-known-answer-3 c = search needs
+
+enum-told : tie.Need-enum-told
+enum-told c = search needs
+
+enum-known-answer-4 : tie.Need-enum-known-answer-4
+enum-known-answer-4 c = search needs
+
+returns : tie.Need-returns
+returns c = rw ((c .before .answer) .given .1)
+
+returns-2 : tie.Need-returns-2
+returns-2 c = rw ((c .check-reply) .ensures, (c .before .before .answer2) .given .1)
+
+returns-3 : tie.Need-returns-3
+returns-3 c = rw ((c .before .answer3) .given .1)
+
+returns-4 : tie.Need-returns-4
+returns-4 c = rw ((c .enum-told) .given .1)
+
+returns-5 : tie.Need-returns-5
+returns-5 c = rw ((c .before .answer4) .given .1)
+
+pub evaluate-reply-spec : {M : Type 1} → statement M
+evaluate-reply-spec =
+    tie.close
+    (tie.spec
+    enum-known-answer
+    enum-known-answer-2
+    check-reply-requires
+    enum-known-answer-3
+    enum-told
+    enum-known-answer-4
+    returns
+    returns-2
+    returns-3
+    returns-4
+    returns-5)

@@ -1,0 +1,4 @@
+pub mod Cleared
+pub mod Left
+pub mod Answers
+pub mod Replies
