@@ -1,5 +1,4 @@
 -- The check gives each number exactly where its line of 01 holds and no line before it does. Assumes nothing.
-use mathlib.Core.Bool.{cond}
 use mathlib.Core.List.{List}
 use mathlib.Core.Logic.{_↔_}
 use mathlib.Core.Path.{_≡_, subst, _∙_}

@@ -1,22 +1,21 @@
 -- Simplifying what was simplified returns the same root and appends nothing, wherever it lies. Assumes nothing.
-use mathlib.Core.List.{List, [], _++_}
+use mathlib.Core.List.{List}
 use mathlib.Core.Path.{_≡_, refl, ap, ap₂, sym, _∙_}
 use Prim.Native.Nat.{ℕ, _+_, _*_, _≤_, _<_}
 use native.Mathlib.Nat.{le-refl}
 use native.Mathlib.Omega.{arith}
-use lib.ListN.{length, getD, drop, take-append-drop, drop-of-length-le}
-use Rattle.arena.specs.Live.{Live, Good, treeOf}
+use lib.ListN.{length, getD, take-append-drop, drop-of-length-le}
+use Rattle.arena.specs.Live.{Good, treeOf}
 use Rattle.arena.specs.LiveLaws.{live-ordered, in-arena}
 use Rattle.format.specs.Limits.{nodeWords, capacity}
 use Rattle.format.specs.Nodes.{nodeOf, headerOf, payloadOf}
-use Rattle.format.specs.declared.Node.{Node}
-use Rattle.formed.specs.LiveOfChecked.{Admitted, live-of-checked, checked-of-live}
+use Rattle.formed.specs.LiveOfChecked.{live-of-checked, checked-of-live}
 use Rattle.formed.specs.Lines.{checked-exactly}
 use Rattle.promises.specs.Answers.{simplified-exactly}
 use Rattle.promises.specs.Check.{admitted-after, passes-after}
 use Rattle.promises.specs.Left.{DoneCall, live-left, tree-left, words64-left}
 use Rattle.promises.specs.Words.{Words64}
-use Rattle.rules.specs.Call.{ranOn, wordsOf, appendedWords, simplifiedAnswer, wordsAfter}
+use Rattle.rules.specs.Call.{ranOn, appendedWords, simplifiedAnswer, wordsAfter}
 use Rattle.rules.specs.Run.{Out, out, weight}
 use Rattle.rules.specs.declared.Simplified.{Simplified}
 use Rattle.theory.specs.Normal.{Normal}

@@ -4,13 +4,12 @@ use mathlib.Core.List.{List}
 use mathlib.Core.Logic.{_↔_, ⊎-elim}
 use mathlib.Core.Path.{_≡_, refl, subst}
 use Prim.Native.Nat.{ℕ, _≤_, _<_}
-use native.Mathlib.Omega.{arith}
 use lib.ListN.{length}
 use borrow.Author.Tests.{leb-true, leb-false, le-leb, lt-leb}
 use Rattle.format.specs.Limits.{capacity}
 use Rattle.formed.specs.Lines.{Passing, Line, checked-exactly}
 use Rattle.promises.specs.Verdicts.{on-verdict}
-use Rattle.rules.specs.Call.{ranOn, fits, ended, afterCheck, simplifiedAnswer}
+use Rattle.rules.specs.Call.{ranOn, fits, ended, simplifiedAnswer}
 use Rattle.rules.specs.Run.{Out}
 use Rattle.rules.specs.declared.Simplified.{Simplified}
 use Rattle.tree.specs.Form.{checked}

@@ -2,11 +2,10 @@
 use mathlib.Core.Bool.{false}
 use mathlib.Core.List.{List}
 use mathlib.Core.Option.{none}
-use mathlib.Core.Path.{_≡_, refl}
+use mathlib.Core.Path.{_≡_}
 use Prim.Native.Nat.{ℕ, _*_, _^_, _<_}
 use Rattle.arena.specs.Live.{treeOf}
 use Rattle.eval.specs.MissingLaws.{HasRow, nothing-missing}
-use Rattle.eval.specs.RowLaws.{assigned-fitting}
 use Rattle.formed.specs.LiveOfChecked.{live-of-checked}
 use Rattle.promises.specs.Words.{Words64}
 use Rattle.theory.specs.Inputs.{EveryInput}
@@ -33,11 +32,7 @@ module _ (words : List ℕ) (count root : ℕ) (passed : checked words count roo
       rw (passed, a .no-bad-row, topless, nothing-missing rows (nodesOf count words) root .1 (a .every-input))
 
   -- DEMAND 3: whatever the inputs are, the value fits the root's size
-  pub value-in-size : Words64 words → (ρ : Assignment) → Fitting ρ → value ρ (treeOf count words root) < 2 ^ (8 * size (treeOf count words root))
-  value-in-size words64 ρ fitting =
+  pub value-fits-size : Words64 words → (ρ : Assignment) → Fitting ρ → value ρ (treeOf count words root) < 2 ^ (8 * size (treeOf count words root))
+  value-fits-size words64 ρ fitting =
       let a = live-of-checked words count words64 root passed in
       value-fits ρ fitting (treeOf count words root) (a .live .sized root (a .root-below)) topless
-
-  pub evaluation-fits : Words64 words → (rows : List ℕ) → Assigns words count root rows →
-      value (assigned rows) (treeOf count words root) < 2 ^ (8 * size (treeOf count words root))
-  evaluation-fits words64 rows a = value-in-size words64 (assigned rows) (assigned-fitting rows (a .no-bad-row))

@@ -3,19 +3,21 @@ use mathlib.Core.Bool.{Bool, true, false}
 use mathlib.Core.List.{List}
 use mathlib.Core.Logic.{_↔_, ⊎-elim}
 use mathlib.Core.Option.{Option, some, none}
-use mathlib.Core.Path.{_≡_, refl, ap, sym, _∙_, subst}
-use Prim.Native.Nat.{ℕ}
+use mathlib.Core.Path.{_≡_, refl, ap, _∙_, subst}
+use Prim.Native.Nat.{ℕ, _*_, _^_, _<_}
 use Rattle.arena.specs.Live.{treeOf}
 use Rattle.eval.specs.MissingLaws.{nothing-missing}
+use Rattle.eval.specs.RowLaws.{assigned-fitting}
 use Rattle.formed.specs.Lines.{Passing, Line, checked-exactly}
-use Rattle.promises.specs.Evaluation.{Assigns, evaluation-total}
+use Rattle.promises.specs.Evaluation.{Assigns, evaluation-total, value-fits-size}
 use Rattle.promises.specs.Verdicts.{on-verdict}
+use Rattle.promises.specs.Words.{Words64}
 use Rattle.rules.specs.declared.Simplified.{Simplified}
 use Rattle.tree.specs.Arena.{nodesOf}
 use Rattle.tree.specs.Form.{checked}
 use Rattle.tree.specs.Meaning.{value}
-use Rattle.tree.specs.Rows.{badRow, assigned, missing, valued, topless, rowed, passed, evaluated}
-use Rattle.tree.specs.Tree.{hasTop}
+use Rattle.tree.specs.Rows.{badRow, assigned, missing, valued, topless, rowed, evaluated}
+use Rattle.tree.specs.Tree.{size, hasTop}
 use Rattle.tree.specs.declared.Evaluated.{Evaluated}
 use Rattle.tree.specs.declared.Verdict.{Verdict}
 
@@ -80,3 +82,11 @@ module _ (words : List ℕ) (count root : ℕ) (rows : List ℕ) where
   -- DEMAND 1 and 01's table of answers
   pub evaluated-exactly : (answer : Evaluated) → (evaluated words count root rows ≡ answer) ↔ EvaluationLine words count root rows answer
   evaluated-exactly answer = (λ e. subst (EvaluationLine words count root rows) e answer-line, line-answer answer)
+
+  -- DEMAND 3: a value that is answered fits the root's size
+  pub answer-fits : Words64 words → (x : ℕ) → evaluated words count root rows ≡ Evaluated.Value x → x < 2 ^ (8 * size (treeOf count words root))
+  answer-fits words64 x e =
+      let l = evaluated-exactly (Evaluated.Value x) .0 e in
+      rw (l .value-is) at
+      (value-fits-size words count root (checked-exactly words count root Verdict.Passed .1 (l .passing)) (l .free) words64
+      (assigned rows) (assigned-fitting rows (l .assigns .no-bad-row)))

@@ -1,15 +1,15 @@
 -- What a call of simplify that was done has left: the run's nodes, in words that are live and of 64 bits. Assumes nothing.
 use mathlib.Core.List.{List}
 use mathlib.Core.Logic.{_⊎_, inl, inr}
-use mathlib.Core.Path.{_≡_, refl, ap, ap₂, sym, _∙_, subst}
-use Prim.Native.Nat.{ℕ, _+_, _*_, _/_, _%_, _^_, _≤_, _<_}
-use native.Mathlib.Decide.{decLt, decLe}
+use mathlib.Core.Path.{_≡_, refl, ap, ap₂, sym, _∙_}
+use Prim.Native.Nat.{ℕ, _+_, _*_, _/_, _^_, _≤_, _<_}
+use native.Mathlib.Decide.{decLt}
 use native.Mathlib.Omega.{arith}
 use lib.ListN.{length, getD}
 use lib.Seq.{ext-getD}
 use Rattle.arena.specs.Live.{Live, Good, treeOf}
 use Rattle.arena.specs.LiveLaws.{capacity-room, capacity-few, live-ordered, in-arena}
-use Rattle.format.specs.Limits.{nodeWords, maxNodes, capacity, headerAt, payloadAt}
+use Rattle.format.specs.Limits.{nodeWords, capacity, headerAt, payloadAt}
 use Rattle.format.specs.Nodes.{nodeOf, headerOf, payloadOf, Narrow}
 use Rattle.format.specs.NodesOfWords.{node-of-header}
 use Rattle.format.specs.declared.Node.{Node}
@@ -24,15 +24,26 @@ use Rattle.rules.specs.declared.Simplified.{Simplified}
 use Rattle.theory.specs.Simulation.{Stands, simplified-stands}
 use Rattle.theory.specs.SizedRun.{Storable, simplified-storable}
 use Rattle.theory.specs.TreeRun.{reduced}
-use Rattle.tree.specs.Arena.{nodeAt, nodesOf, at, build, treeAt, Below, Ordered}
+use Rattle.tree.specs.Arena.{nodeAt, nodesOf, at, treeAt}
 use Rattle.tree.specs.ArenaLaws.{length-nodesOf, at-nodesOf, tree-eq}
-use Rattle.tree.specs.Form.{Sized, checked}
+use Rattle.tree.specs.Form.{checked}
 use Rattle.tree.specs.declared.Verdict.{Verdict}
 
 -- a call of simplify on the words of a slice of u64 that was done, with the new root and count
 pub record DoneCall (words : List ℕ) (count root root′ m : ℕ) : Type 0 where
   pub words64 : Words64 words
   pub answer : simplifiedAnswer words count root ≡ Simplified.Done root′ m
+
+-- with enough room a call on what passes the check is one
+pub with-room : (words : List ℕ) (count root : ℕ) → Words64 words → checked words count root ≡ Verdict.Passed →
+    length (ranOn words count root .arena) ≤ capacity (length words) →
+    DoneCall words count root (ranOn words count root .index) (length (ranOn words count root .arena))
+with-room words count root words64 passes room = record {
+  words64 = words64;
+  answer =
+      simplified-exactly words count root (Simplified.Done (ranOn words count root .index) (length (ranOn words count root .arena))) .1
+      (record { passing = checked-exactly words count root Verdict.Passed .0 passes; enough = room; root-is = refl; count-is = refl });
+}
 
 module _ {words : List ℕ} {count root root′ m : ℕ} (call : DoneCall words count root root′ m) where
   abbrev ran : Out

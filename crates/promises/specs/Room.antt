@@ -1,6 +1,6 @@
 -- Every word after a call of simplify: refusals leave all, no room clears the free ones, done appends. Assumes nothing.
 use mathlib.Core.List.{List}
-use mathlib.Core.Path.{_≡_, refl, ap, sym, _∙_}
+use mathlib.Core.Path.{_≡_, refl}
 use Prim.Native.Nat.{ℕ, _+_, _*_, _≤_, _<_}
 use native.Mathlib.Nat.{le-refl}
 use native.Mathlib.Omega.{arith}
@@ -11,9 +11,11 @@ use Rattle.format.specs.Nodes.{headerOf, payloadOf}
 use Rattle.promises.specs.Answers.{simplified-exactly}
 use Rattle.promises.specs.Left.{DoneCall, fitted, grown, room, left-is, left-length, left-kept, header-new, payload-new, nodes-left}
 use Rattle.promises.specs.Words.{appended-leaves, cleared-length, cleared-keeps, cleared-zero, cleared-leaves}
-use Rattle.rules.specs.Call.{ranOn, clearedWords, simplifiedAnswer, wordsAfter, simplifiedNumber, simplifiedRoot, simplifiedCount}
+use Rattle.rules.specs.Call.{ranOn, simplifiedAnswer, wordsAfter, simplifiedNumber, simplifiedRoot, simplifiedCount}
 use Rattle.rules.specs.declared.Simplified.{Simplified}
 use Rattle.tree.specs.Arena.{at, nodesOf}
+use Rattle.tree.specs.Rows.{evaluatedNumber, evaluatedValue}
+use Rattle.tree.specs.declared.Evaluated.{Evaluated}
 use Rattle.tree.specs.declared.Verdict.{Verdict}
 
 -- DEMAND 1: a refusal alters no word
@@ -22,11 +24,18 @@ pub refused-alters-nothing : (words : List ℕ) (count root : ℕ) (v : Verdict)
 unfolding wordsAfter
 refused-alters-nothing words count root v e = rw e
 
--- DEMAND 1: and neither a refusal nor no room moves the count; both return root 0
-pub unmoved : (answer : Simplified) (count : ℕ) → (simplifiedNumber answer ≡ 0 → ⊥) → (simplifiedRoot answer ≡ 0) × (simplifiedCount answer count ≡ count)
-unmoved (Simplified.Done root m) count other = absurd (other refl)
-unmoved (Simplified.Refused v) count other = (refl, refl)
-unmoved Simplified.NoRoom count other = (refl, refl)
+-- DEMAND 1: and neither a refusal nor no room moves the count; both return root 0, and a refused evaluation value 0
+pub root-and-count : (answer : Simplified) (count : ℕ) → (simplifiedNumber answer ≡ 0 → ⊥) → (simplifiedRoot answer ≡ 0) × (simplifiedCount answer count ≡ count)
+root-and-count (Simplified.Done root m) count other = absurd (other refl)
+root-and-count (Simplified.Refused v) count other = (refl, refl)
+root-and-count Simplified.NoRoom count other = (refl, refl)
+
+pub no-value : (answer : Evaluated) → (evaluatedNumber answer ≡ 0 → ⊥) → evaluatedValue answer ≡ 0
+no-value (Evaluated.Value v) other = absurd (other refl)
+no-value (Evaluated.Refused v) other = refl
+no-value (Evaluated.BadRow j) other = refl
+no-value Evaluated.TopReachable other = refl
+no-value (Evaluated.InputMissing i) other = refl
 
 -- the words after no room: those of the old nodes and those past the capacity are kept, and those between are zero
 pub record Cleared (words after : List ℕ) (count : ℕ) : Type 0 where

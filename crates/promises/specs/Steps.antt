@@ -1,13 +1,13 @@
 -- The run has ended: more steps give the same answer and the same words. Assumes nothing.
 use mathlib.Core.List.{List}
-use mathlib.Core.Path.{_≡_, ap, _∙_}
+use mathlib.Core.Path.{_≡_}
 use Prim.Native.Nat.{ℕ, _≤_}
 use native.Mathlib.Omega.{arith}
 use Rattle.arena.specs.Live.{treeOf}
 use Rattle.arena.specs.LiveLaws.{live-ordered, in-arena}
 use Rattle.formed.specs.LiveOfChecked.{live-of-checked}
 use Rattle.promises.specs.Words.{Words64}
-use Rattle.rules.specs.Call.{ranOn, fits, ended, afterCheck, simplifiedAnswer, wordsLeft, wordsAfter}
+use Rattle.rules.specs.Call.{ranOn, fits, ended, simplifiedAnswer, wordsLeft, wordsAfter}
 use Rattle.rules.specs.Run.{Out, runFor, weight}
 use Rattle.theory.specs.Simulation.{runs-agree}
 use Rattle.tree.specs.Arena.{nodesOf}

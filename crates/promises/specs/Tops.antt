@@ -1,5 +1,5 @@
 -- A done call ends at Top exactly if a Top was reachable, and at one constant where there is neither Top nor input. Assumes nothing.
-use mathlib.Core.Bool.{Bool, false}
+use mathlib.Core.Bool.{false}
 use mathlib.Core.List.{List}
 use mathlib.Core.Path.{_≡_, ap, ap₂, sym, _∙_}
 use Prim.Native.Nat.{ℕ}
@@ -10,9 +10,8 @@ use Rattle.rules.specs.Call.{wordsAfter}
 use Rattle.theory.specs.Inputs.{reduced-constant}
 use Rattle.theory.specs.Normal.{IsConst}
 use Rattle.theory.specs.Reduced.{reduced-top}
-use Rattle.theory.specs.TreeRun.{reduced}
 use Rattle.tree.specs.Meaning.{Assignment, Fitting, value}
-use Rattle.tree.specs.Tree.{Tree, const, size, isTop, hasTop, hasInput}
+use Rattle.tree.specs.Tree.{const, size, isTop, hasTop, hasInput}
 
 module _ {words : List ℕ} {count root root′ m : ℕ} (call : DoneCall words count root root′ m) where
   -- DEMAND 3: it is Top exactly if a Top was reachable

@@ -13,10 +13,9 @@ use Rattle.format.specs.declared.Node.{Node}
 use Rattle.format.specs.declared.Un.{Un}
 use Rattle.manual.specs.Operations.{intCarry, unfit, intSCarry, intSBorrow}
 use Rattle.rules.specs.Call.{wordsOf, simplifiedAnswer, wordsAfter, simplifiedNumber, simplifiedRoot, simplifiedCount}
-use Rattle.rules.specs.declared.Simplified.{Simplified}
 use Rattle.tree.specs.Arena.{nodesOf, treeAt}
 use Rattle.tree.specs.Form.{wellFormed, wellSized, judged, scanned, checked}
-use Rattle.tree.specs.Tree.{Tree, top, entry, const, unary, binary, un-discrete, bin-discrete, same}
+use Rattle.tree.specs.Tree.{Tree, top, entry, const, binary, un-discrete, bin-discrete, same}
 
 -- nodes of which the last is the root, and the tree that the root becomes
 pub record Example : Type 0 where

@@ -2,7 +2,7 @@
 use mathlib.Core.Bool.{Bool, true, false, _&&_, _||_}
 use mathlib.Core.List.{List, [], _∷_, _++_}
 use mathlib.Core.Path.{_≡_, refl, ap, sym, _∙_, subst}
-use Prim.Native.Nat.{ℕ, zero, suc, _+_, _*_, _%_, _^_, _≤_, _<_}
+use Prim.Native.Nat.{ℕ, zero, suc, _*_, _%_, _^_, _≤_, _<_}
 use native.Mathlib.Decide.{decLt}
 use native.Mathlib.Omega.{arith}
 use lib.Dec.{eqb}
@@ -16,9 +16,9 @@ use Rattle.format.specs.declared.Node.{Node}
 use Rattle.format.specs.declared.Sizing.{Sizing}
 use Rattle.format.specs.declared.Un.{Un}
 use Rattle.rules.specs.Rules.{binAct, unAct}
-use Rattle.rules.specs.Run.{Out, append, makeConst, near, acted, keptAs, unaryRun, binaryRun, visit, weight, simplified}
+use Rattle.rules.specs.Run.{Out, makeConst, near, acted, keptAs, unaryRun, binaryRun, visit, weight, simplified}
 use Rattle.rules.specs.declared.Act.{Act}
-use Rattle.theory.specs.Falls.{nodes-positive, sub-le, Falls, falls-weaker, unary-falls, binary-falls}
+use Rattle.theory.specs.Falls.{sub-le, Falls, falls-weaker, unary-falls, binary-falls}
 use Rattle.theory.specs.Normal.{normal-top}
 use Rattle.theory.specs.Reduced.{reduced-normal, reduced-top, reduced-nodes}
 use Rattle.theory.specs.Simulation.{Stands, onward, near-stands, appended-stands, redo-stands, simplified-stands, simplified-eq}
@@ -27,7 +27,7 @@ use Rattle.theory.specs.TreeRun.{constTree, reduced}
 use Rattle.theory.specs.Values.{over-reduced-one, over-reduced-two, ActSized, bin-act-sized, un-act-sized}
 use Rattle.tree.specs.Arena.{at, build, treeAt, Below, Ordered}
 use Rattle.tree.specs.ArenaLaws.{extends-refl, tree-stays, tree-eq, length-appended, appended-extends, at-appended, tree-appended}
-use Rattle.tree.specs.Form.{sized, unSizing, binSizing, sizeSeen, Sized}
+use Rattle.tree.specs.Form.{sized, Sized}
 use Rattle.tree.specs.Tree.{Tree, const, unary, binary, nodes, path, isTop, hasTop}
 
 pub record Storable (arena : List Node) : Type 0 where
