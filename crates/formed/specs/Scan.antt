@@ -2,7 +2,7 @@
 use mathlib.Core.Bool.{Bool, true, false, cond}
 use mathlib.Core.List.{List}
 use mathlib.Core.Logic.{⊎-elim}
-use mathlib.Core.Path.{_≡_, refl, subst}
+use mathlib.Core.Path.{_≡_, refl, ap, subst, _∙_}
 use Prim.Native.Nat.{ℕ, zero, suc, _+_, _-_, _≤_, _<_, zero-le}
 use native.Mathlib.Nat.{eq-or-lt-of-le}
 use native.Mathlib.Numerals.{add-one}
@@ -118,3 +118,21 @@ module _ (words : List ℕ) where
 
   pub scan-passes : (count : ℕ) → ((i : ℕ) → i < count → WellMade words i) → scanned words count 0 ≡ Verdict.Passed
   scan-passes count w = passes-from count 0 (λ k a b. w k (omega arith))
+
+  -- and a node that is the first that is not well made is named
+  finds : (n i j : ℕ) (v : Verdict) → First words n i j → judged words j ≡ v → ((next : Verdict) → orElse v next ≡ v) → scanned words n i ≡ v
+  unfolding scanned
+  finds zero i j v f e stops = absurd (omega (arith, f .from, f .below))
+  finds (suc n) i j v f e stops =
+      ⊎-elim (λ same. ap (λ (k : ℕ). orElse (judged words k) (scanned words n (suc i))) same ∙ rw e (stops (scanned words n (suc i))))
+      (λ later. rw (judged-passes i (f .before i (omega arith) later))
+      (finds n (suc i) j v (record { from = later; below = omega (arith, f .below); before = λ k a b. f .before k (omega arith) b }) e stops))
+      (eq-or-lt-of-le (f .from))
+
+  pub scan-finds-ill-formed : (count i : ℕ) → First words count 0 i → wellFormed words i ≡ false → scanned words count 0 ≡ Verdict.IllFormed i
+  unfolding judged
+  scan-finds-ill-formed count i first ill = finds count 0 i (Verdict.IllFormed i) first (rw ill) (λ next. refl)
+
+  pub scan-finds-ill-sized : (count i : ℕ) → First words count 0 i → wellFormed words i ≡ true → wellSized words i ≡ false → scanned words count 0 ≡ Verdict.IllSized i
+  unfolding judged
+  scan-finds-ill-sized count i first formed ill = finds count 0 i (Verdict.IllSized i) first (rw (formed, ill)) (λ next. refl)

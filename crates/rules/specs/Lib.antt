@@ -1,3 +1,5 @@
 pub mod Rules
 pub mod Run
 pub mod Call
+pub mod Bench
+pub mod Whole

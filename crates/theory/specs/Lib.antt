@@ -12,3 +12,4 @@ pub mod BinValues
 pub mod UnValues
 pub mod Values
 pub mod Visits
+pub mod SizedRun

@@ -57,7 +57,7 @@ normal-top (binary op s a b) h = sym (h .2) ∙ cc (normal-top a (h .0), normal-
 
 -- A NORMAL TREE WITHOUT TOP AND INPUTS IS A CONSTANT: a rule never keeps a node over constants alone
 
-pub IsConst : Tree → Type 0
+unfoldable pub IsConst : Tree → Type 0
 IsConst t = (s : ℕ) × (v : ℕ) × (t ≡ const s v)
 
 -- a number for each action, to tell them apart

@@ -89,7 +89,7 @@ abbrev pub Simulates : (List Node → ℕ → Out) → (Tree → Tree) → Type 
 Simulates f g = (arena : List Node) → Ordered arena → (i : ℕ) → i < length arena → Stands arena (g (treeAt arena i)) (f arena i)
 
 -- a constant and a node over it, appended
-redo-stands : (arena : List Node) → Ordered arena → (op : Bin) (s v e : ℕ) → e < length arena →
+pub redo-stands : (arena : List Node) → Ordered arena → (op : Bin) (s v e : ℕ) → e < length arena →
     Stands arena (binary op s (treeAt arena e) (constTree s v)) (append (Node.Binary op s e (length arena)) (arena ++ makeConst s v ∷ []))
 redo-stands arena w op s v e h =
     let x = appended-stands arena (makeConst s v) w tt in
