@@ -11,7 +11,7 @@ use Rattle.arith.specs.Operands.{Extension}
 use Rattle.eval.specs.Answers.{foundOf, inputAnswer, answered, overOne, overTwo, answerAt, OperandFits, OperandsFit, Evaluable}
 use Rattle.eval.specs.MissingLaws.{missing-eq}
 use Rattle.eval.specs.RowLaws.{assigned-fitting}
-use Rattle.eval.specs.SizedOperands.{unary-operand, binary-operands}
+use Rattle.values.specs.SizedOperands.{unary-operand, binary-operands}
 use Rattle.eval.specs.declared.rows.Found.{Found}
 use Rattle.eval.specs.declared.walk.Answer.{Answer}
 use Rattle.format.specs.Limits.{headerAt, payloadAt}
