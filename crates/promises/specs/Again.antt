@@ -13,7 +13,7 @@ use Rattle.formed.specs.LiveOfChecked.{live-of-checked, checked-of-live}
 use Rattle.formed.specs.Lines.{checked-exactly}
 use Rattle.promises.specs.Answers.{simplified-exactly}
 use Rattle.promises.specs.Check.{admitted-after, passes-after}
-use Rattle.promises.specs.Left.{DoneCall, live-left, tree-left, words64-left}
+use Rattle.promises.specs.After.{DoneCall, live-after, tree-after, words64-after}
 use Rattle.promises.specs.Words.{Words64}
 use Rattle.rules.specs.Call.{ranOn, appendedWords, simplifiedAnswer, wordsAfter}
 use Rattle.rules.specs.Run.{Out, out, weight}
@@ -59,7 +59,7 @@ module _ {words : List ℕ} {count root root′ m : ℕ} (call : DoneCall words 
   module _ (other : List ℕ) (n i : ℕ) (words64 : Words64 other) (passed : checked other n i ≡ Verdict.Passed)
       (same : treeOf n other i ≡ treeOf m (wordsAfter words count root) root′) where
     normal-there : Normal (treeOf n other i)
-    normal-there = rw (same, tree-left call) (reduced-normal (treeOf count words root))
+    normal-there = rw (same, tree-after call) (reduced-normal (treeOf count words root))
 
     -- DEMAND 3: simplifying it again returns the same root and appends nothing
     pub stays-anywhere : simplifiedAnswer other n i ≡ Simplified.Done i n
@@ -70,10 +70,10 @@ module _ {words : List ℕ} {count root root′ m : ℕ} (call : DoneCall words 
 
   -- DEMAND 3: so does simplifying the result again
   pub again-answer : simplifiedAnswer (wordsAfter words count root) m root′ ≡ Simplified.Done root′ m
-  again-answer = stays-anywhere (wordsAfter words count root) m root′ (words64-left call) (passes-after call) refl
+  again-answer = stays-anywhere (wordsAfter words count root) m root′ (words64-after call) (passes-after call) refl
 
   pub again-words : wordsAfter (wordsAfter words count root) m root′ ≡ wordsAfter words count root
-  again-words = words-stay-anywhere (wordsAfter words count root) m root′ (words64-left call) (passes-after call) refl
+  again-words = words-stay-anywhere (wordsAfter words count root) m root′ (words64-after call) (passes-after call) refl
 
   -- the result at the head of another slice, with more room or less
   module _ (other : List ℕ) (words64 : Words64 other) (room : m ≤ capacity (length other))
@@ -86,7 +86,7 @@ module _ {words : List ℕ} {count root root′ m : ℕ} (call : DoneCall words 
 
     good-there : (j : ℕ) → j < m → Good other j
     good-there j h =
-        let g = live-left call .good j h in
+        let g = live-after call .good j h in
         record {
           header-is = ap headerOf (node-same j h) ∙ g .header-is ∙ sym (head (nodeWords * j) (omega arith));
           payload-is = ap payloadOf (node-same j h) ∙ g .payload-is ∙ sym (head (nodeWords * j + 1) (omega arith));
@@ -97,7 +97,7 @@ module _ {words : List ℕ} {count root root′ m : ℕ} (call : DoneCall words 
     passes-there =
         let a = admitted-after call in
         checked-of-live (record {
-          live = record { room = room; good = good-there; sized = λ j h. rw nodes-same (live-left call .sized j h) };
+          live = record { room = room; good = good-there; sized = λ j h. rw nodes-same (live-after call .sized j h) };
           root-below = a .root-below;
           few-nodes = rw nodes-same (a .few-nodes);
           short-path = rw nodes-same (a .short-path);

@@ -19,7 +19,7 @@ use Rattle.format.specs.declared.Node.{Node}
 use Rattle.promises.specs.Bench.{answer42}
 use Rattle.promises.specs.Evaluation.{Assigns}
 use Rattle.promises.specs.FirstRows.{FirstBad, WithoutRow}
-use Rattle.promises.specs.Left.{DoneCall}
+use Rattle.promises.specs.After.{DoneCall}
 use Rattle.promises.specs.Promises.{answering, Passed, past-check, Simplifying, simplifying, alike}
 use Rattle.promises.specs.Room.{Cleared}
 use Rattle.promises.specs.Words.{Words64}

@@ -16,8 +16,8 @@ use Rattle.promises.specs.Check.{no-more-nodes, no-longer-path, passes-a
 use Rattle.promises.specs.Evaluation.{Assigns, evaluation-total, value-fits-size}
 use Rattle.promises.specs.EvaluationAnswers.{EvaluationLine, evaluated-exactly, answer-fits}
 use Rattle.promises.specs.FirstRows.{FirstBad, bad-row-is-first, WithoutRow, missing-has-no-row}
-use Rattle.promises.specs.Left.{DoneCall, with-room, words64-left}
-use Rattle.promises.specs.Room.{refused-alters-nothing, root-and-count, no-value, Cleared, no-room-clears, Appended, done-appends, done-nodes, done-count}
+use Rattle.promises.specs.After.{DoneCall, with-room, nodes-after}
+use Rattle.promises.specs.Room.{refused-alters-nothing, root-and-count, no-value, Cleared, no-room-clears, Appended, done-appends, done-count, words64-always}
 use Rattle.promises.specs.Steps.{more-steps-answer, more-steps-words}
 use Rattle.promises.specs.Tops.{top-exactly, one-constant}
 use Rattle.promises.specs.Values.{same-size, same-value, same-evaluation}
@@ -43,6 +43,8 @@ pub record Answering (words : List ℕ) (count root : ℕ) : Type 0 where
   -- demand 1: a refusal alters no word, and after no room the free words are zero and all others as they were
   pub refusal-words : (v : Verdict) → simplifiedAnswer words count root ≡ Simplified.Refused v → wordsAfter words count root ≡ words
   pub no-room-words : simplifiedAnswer words count root ≡ Simplified.NoRoom → Cleared words (wordsAfter words count root) count
+  -- whatever the answer, the words are of 64 bits again, so that every promise holds of the next call too
+  pub words64-kept : Words64 words → Words64 (wordsAfter words count root)
   -- 01, answers: a number other than 0 comes with root 0 and the count handed in, or with value 0
   pub unmoved : (simplifiedNumber (simplifiedAnswer words count root) ≡ 0 → ⊥) →
       (simplifiedRoot (simplifiedAnswer words count root) ≡ 0) × (simplifiedCount (simplifiedAnswer words count root) count ≡ count)
@@ -58,6 +60,7 @@ answering words count root = record {
   evaluate-exactly = evaluated-exactly words count root;
   refusal-words = refused-alters-nothing words count root;
   no-room-words = no-room-clears words count root;
+  words64-kept = words64-always words count root;
   unmoved = root-and-count (simplifiedAnswer words count root) count;
   valueless = λ rows. no-value (evaluated words count root rows);
   bad-row = λ rows j e. bad-row-is-first rows j (evaluated-exactly words count root rows (Evaluated.BadRow j) .0 e .1);
@@ -128,7 +131,6 @@ pub record Simplifying (words : List ℕ) (count root root′ m : ℕ) : Type 0 
   pub appended : Appended words (wordsAfter words count root) count root m
   pub nodes-are : nodesOf m (wordsAfter words count root) ≡ ranOn words count root .arena
   pub count-is : m ≡ count + length (drop count (ranOn words count root .arena))
-  pub words64 : Words64 (wordsAfter words count root)
 
 pub simplifying : {words : List ℕ} {count root root′ m : ℕ} → DoneCall words count root root′ m → Simplifying words count root root′ m
 simplifying call = record {
@@ -147,9 +149,8 @@ simplifying call = record {
   any-slice = again-in-any-slice call;
   any-slice-same-words = again-words-in-any-slice call;
   appended = done-appends call;
-  nodes-are = done-nodes call;
+  nodes-are = nodes-after call;
   count-is = done-count call;
-  words64 = words64-left call;
 }
 
 -- 01, contracts: two done calls whose trees under the root are the same give the same simplified tree

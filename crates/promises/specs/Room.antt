@@ -1,7 +1,8 @@
 -- Every word after a call of simplify: refusals leave all, no room clears the free ones, done appends. Assumes nothing.
 use mathlib.Core.List.{List}
 use mathlib.Core.Path.{_≡_, refl}
-use Prim.Native.Nat.{ℕ, _+_, _*_, _≤_, _<_}
+use Prim.Native.Nat.{ℕ, _+_, _*_, _^_, _≤_, _<_}
+use native.Mathlib.Decide.{decLt}
 use native.Mathlib.Nat.{le-refl}
 use native.Mathlib.Omega.{arith}
 use lib.ListN.{length, getD, drop, length-drop}
@@ -9,11 +10,11 @@ use Rattle.arena.specs.LiveLaws.{capacity-room}
 use Rattle.format.specs.Limits.{nodeWords, capacity, headerAt, payloadAt}
 use Rattle.format.specs.Nodes.{headerOf, payloadOf}
 use Rattle.promises.specs.Answers.{simplified-exactly}
-use Rattle.promises.specs.Left.{DoneCall, fitted, grown, room, left-is, left-length, left-kept, header-new, payload-new, nodes-left}
-use Rattle.promises.specs.Words.{appended-leaves, cleared-length, cleared-keeps, cleared-zero, cleared-leaves}
+use Rattle.promises.specs.After.{DoneCall, fitted, grown, room, after-is, after-length, after-kept, header-new, payload-new, words64-after}
+use Rattle.promises.specs.Words.{Words64, appended-leaves, cleared-length, cleared-keeps, cleared-zero, cleared-leaves}
 use Rattle.rules.specs.Call.{ranOn, simplifiedAnswer, wordsAfter, simplifiedNumber, simplifiedRoot, simplifiedCount}
 use Rattle.rules.specs.declared.Simplified.{Simplified}
-use Rattle.tree.specs.Arena.{at, nodesOf}
+use Rattle.tree.specs.Arena.{at}
 use Rattle.tree.specs.Rows.{evaluatedNumber, evaluatedValue}
 use Rattle.tree.specs.declared.Evaluated.{Evaluated}
 use Rattle.tree.specs.declared.Verdict.{Verdict}
@@ -72,18 +73,32 @@ pub done-appends : {words : List ℕ} {count root root′ m : ℕ} → DoneCall 
 done-appends {words} {count} {root} {root′} {m} call =
     let total = fitted call .count-is in
     record {
-      same-length = left-length call;
+      same-length = after-length call;
       no-fewer = rw (← total) (grown call);
-      kept = left-kept call;
+      kept = after-kept call;
       header-is = λ i from to. header-new call i from (rw total to);
       payload-is = λ i from to. payload-new call i from (rw total to);
-      later = λ k h. rw (left-is call) (appended-leaves words count (ranOn words count root) (grown call) (room call) k (rw total h));
+      later = λ k h. rw (after-is call) (appended-leaves words count (ranOn words count root) (grown call) (room call) k (rw total h));
     }
 
--- 01, contracts: the nodes read off the words are the run's, and the count is the old one and the nodes that the rules append
-pub done-nodes : {words : List ℕ} {count root root′ m : ℕ} → DoneCall words count root root′ m → nodesOf m (wordsAfter words count root) ≡ ranOn words count root .arena
-done-nodes call = nodes-left call
-
+-- 01, contracts: the count is the old one and the nodes that the rules append
 pub done-count : {words : List ℕ} {count root root′ m : ℕ} → DoneCall words count root root′ m → m ≡ count + length (drop count (ranOn words count root .arena))
 done-count {words} {count} {root} call =
     omega (arith, fitted call .count-is, grown call, length-drop count (ranOn words count root .arena))
+
+-- whatever the answer, the words are of 64 bits again
+cleared-words64 : (words after : List ℕ) (count : ℕ) → Cleared words after count → Words64 words → Words64 after
+cleared-words64 words after count c words64 k = go (decLt k (nodeWords * count)) (decLt k (nodeWords * capacity (length words)))
+  where
+    go : Dec (k < nodeWords * count) → Dec (k < nodeWords * capacity (length words)) → getD after k 0 < 2 ^ 64
+    go (yes old) d = rw (c .kept k old) (words64 k)
+    go (no free) (yes inside) = rw (c .zero-between k (omega arith) inside) (omega arith)
+    go (no free) (no out) = rw (c .past k (omega arith)) (words64 k)
+
+pub words64-always : (words : List ℕ) (count root : ℕ) → Words64 words → Words64 (wordsAfter words count root)
+words64-always words count root words64 = by-answer (simplifiedAnswer words count root) refl
+  where
+    by-answer : (answer : Simplified) → simplifiedAnswer words count root ≡ answer → Words64 (wordsAfter words count root)
+    by-answer (Simplified.Done root′ m) e = words64-after (record { words64 = words64; answer = e })
+    by-answer (Simplified.Refused v) e = rw (refused-alters-nothing words count root v e) words64
+    by-answer Simplified.NoRoom e = cleared-words64 words (wordsAfter words count root) count (no-room-clears words count root e) words64

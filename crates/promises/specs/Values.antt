@@ -9,7 +9,7 @@ use Rattle.eval.specs.RowLaws.{assigned-fitting}
 use Rattle.formed.specs.Lines.{checked-exactly}
 use Rattle.promises.specs.Check.{passes-after}
 use Rattle.promises.specs.EvaluationAnswers.{Valued, evaluated-exactly}
-use Rattle.promises.specs.Left.{DoneCall, admitted, tree-left}
+use Rattle.promises.specs.After.{DoneCall, admitted, tree-after}
 use Rattle.rules.specs.Call.{wordsAfter}
 use Rattle.theory.specs.Inputs.{reduced-inputs}
 use Rattle.theory.specs.Values.{reduced-value, reduced-size, reduced-free}
@@ -27,12 +27,12 @@ module _ {words : List ℕ} {count root root′ m : ℕ} (call : DoneCall words 
   module _ (topless : hasTop (treeOf count words root) ≡ false) where
     -- DEMAND 3: the simplified root has the root's size
     pub same-size : size (treeOf m (wordsAfter words count root) root′) ≡ size (treeOf count words root)
-    same-size = ap size (tree-left call) ∙ reduced-size (treeOf count words root) sized-before topless
+    same-size = ap size (tree-after call) ∙ reduced-size (treeOf count words root) sized-before topless
 
     -- DEMAND 3: and gives its value, whatever the inputs are
     pub same-value : (ρ : Assignment) → Fitting ρ →
         value ρ (treeOf m (wordsAfter words count root) root′) ≡ value ρ (treeOf count words root)
-    same-value ρ fitting = ap (value ρ) (tree-left call) ∙ reduced-value ρ fitting (treeOf count words root) sized-before topless
+    same-value ρ fitting = ap (value ρ) (tree-after call) ∙ reduced-value ρ fitting (treeOf count words root) sized-before topless
 
   -- DEMAND 3: so evaluation answers the same, wherever it has given a value
   pub same-evaluation : (rows : List ℕ) (v : ℕ) → evaluated words count root rows ≡ Evaluated.Value v →
@@ -45,9 +45,9 @@ module _ {words : List ℕ} {count root root′ m : ℕ} (call : DoneCall words 
         passing = checked-exactly (wordsAfter words count root) m root′ Verdict.Passed .0 (passes-after call);
         assigns = record {
           no-bad-row = before .assigns .no-bad-row;
-          every-input = rw (tree-left call) (reduced-inputs (HasRow rows) t (before .assigns .every-input));
+          every-input = rw (tree-after call) (reduced-inputs (HasRow rows) t (before .assigns .every-input));
         };
-        free = ap hasTop (tree-left call) ∙ reduced-free t sized-before (before .free);
+        free = ap hasTop (tree-after call) ∙ reduced-free t sized-before (before .free);
         value-is = same-value (before .free) (assigned rows) fitting ∙ before .value-is;
       } in
       evaluated-exactly (wordsAfter words count root) m root′ rows (Evaluated.Value v) .1 after ∙ sym e

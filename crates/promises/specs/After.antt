@@ -1,4 +1,4 @@
--- What a call of simplify that was done has left: the run's nodes, in words that are live and of 64 bits. Assumes nothing.
+-- What a call of simplify that was done leaves: the run's nodes, in words that are live and of 64 bits. Assumes nothing.
 use mathlib.Core.List.{List}
 use mathlib.Core.Logic.{_⊎_, inl, inr}
 use mathlib.Core.Path.{_≡_, refl, ap, ap₂, sym, _∙_}
@@ -49,8 +49,8 @@ module _ {words : List ℕ} {count root root′ m : ℕ} (call : DoneCall words 
   abbrev ran : Out
   ran = ranOn words count root
 
-  abbrev left : List ℕ
-  left = wordsAfter words count root
+  abbrev after : List ℕ
+  after = wordsAfter words count root
 
   pub fitted : Fitted words count root root′ m
   fitted = simplified-exactly words count root (Simplified.Done root′ m) .0 (call .answer)
@@ -94,27 +94,27 @@ module _ {words : List ℕ} {count root root′ m : ℕ} (call : DoneCall words 
 
   -- AFTER
 
-  pub left-is : wordsAfter words count root ≡ appendedWords words count ran
+  pub after-is : wordsAfter words count root ≡ appendedWords words count ran
   unfolding wordsAfter
-  left-is = rw (call .answer)
+  after-is = rw (call .answer)
 
-  pub left-length : length (wordsAfter words count root) ≡ length words
-  left-length = rw left-is (appended-length words count ran grown room)
+  pub after-length : length (wordsAfter words count root) ≡ length words
+  after-length = rw after-is (appended-length words count ran grown room)
 
-  pub left-kept : (k : ℕ) → k < nodeWords * count → getD left k 0 ≡ getD words k 0
-  left-kept k h = rw left-is (appended-keeps words count ran grown room k h)
+  pub after-kept : (k : ℕ) → k < nodeWords * count → getD after k 0 ≡ getD words k 0
+  after-kept k h = rw after-is (appended-keeps words count ran grown room k h)
 
   module _ (i : ℕ) (from : count ≤ i) (to : i < length (ran .arena)) where
-    pub header-new : headerAt left i ≡ headerOf (at (ran .arena) i)
-    header-new = rw left-is (appended-header words count ran grown room i from to)
+    pub header-new : headerAt after i ≡ headerOf (at (ran .arena) i)
+    header-new = rw after-is (appended-header words count ran grown room i from to)
 
-    pub payload-new : payloadAt left i ≡ payloadOf (at (ran .arena) i)
-    payload-new = rw left-is (appended-payload words count ran grown room i from to)
+    pub payload-new : payloadAt after i ≡ payloadOf (at (ran .arena) i)
+    payload-new = rw after-is (appended-payload words count ran grown room i from to)
 
-    node-new : nodeAt left i ≡ at (ran .arena) i
+    node-new : nodeAt after i ≡ at (ran .arena) i
     node-new = ap₂ nodeOf header-new payload-new ∙ node-of-header (at (ran .arena) i) (narrow i to)
 
-    good-new : Good left i
+    good-new : Good after i
     good-new = record {
       header-is = ap headerOf node-new ∙ sym header-new;
       payload-is = ap payloadOf node-new ∙ sym payload-new;
@@ -122,16 +122,16 @@ module _ {words : List ℕ} {count root root′ m : ℕ} (call : DoneCall words 
     }
 
   module _ (i : ℕ) (b : i < count) where
-    header-old : headerAt left i ≡ headerAt words i
-    header-old = left-kept (nodeWords * i) (omega arith)
+    header-old : headerAt after i ≡ headerAt words i
+    header-old = after-kept (nodeWords * i) (omega arith)
 
-    payload-old : payloadAt left i ≡ payloadAt words i
-    payload-old = left-kept (nodeWords * i + 1) (omega arith)
+    payload-old : payloadAt after i ≡ payloadAt words i
+    payload-old = after-kept (nodeWords * i + 1) (omega arith)
 
-    node-old : nodeAt left i ≡ nodeAt words i
+    node-old : nodeAt after i ≡ nodeAt words i
     node-old = ap₂ nodeOf header-old payload-old
 
-    good-old : Good left i
+    good-old : Good after i
     good-old =
         let g = admitted .live .good i b in
         record {
@@ -140,54 +140,54 @@ module _ {words : List ℕ} {count root root′ m : ℕ} (call : DoneCall words 
           below = rw node-old (g .below);
         }
 
-    node-there : nodeAt left i ≡ at (ran .arena) i
+    node-there : nodeAt after i ≡ at (ran .arena) i
     node-there = node-old ∙ sym (at-nodesOf count words i b) ∙ sym (stands .extends .old i (in-arena (admitted .live) i b))
 
-  node-left : (i : ℕ) → i < length (ran .arena) → nodeAt left i ≡ at (ran .arena) i
-  node-left i h = go (decLt i count)
+  node-after : (i : ℕ) → i < length (ran .arena) → nodeAt after i ≡ at (ran .arena) i
+  node-after i h = go (decLt i count)
     where
-      go : Dec (i < count) → nodeAt left i ≡ at (ran .arena) i
+      go : Dec (i < count) → nodeAt after i ≡ at (ran .arena) i
       go (yes b) = node-there i b
       go (no past) = node-new i (omega arith) h
 
   -- the nodes read off the words are the run's
-  pub nodes-left : nodesOf m left ≡ ran .arena
-  nodes-left =
+  pub nodes-after : nodesOf m after ≡ ran .arena
+  nodes-after =
       let total = fitted .count-is in
-      ext-getD Node.Top (nodesOf m left) (ran .arena) (length-nodesOf m left ∙ sym total)
-      (λ i h. let b : i < m = omega (arith, length-nodesOf m left) in at-nodesOf m left i b ∙ node-left i (omega arith))
+      ext-getD Node.Top (nodesOf m after) (ran .arena) (length-nodesOf m after ∙ sym total)
+      (λ i h. let b : i < m = omega (arith, length-nodesOf m after) in at-nodesOf m after i b ∙ node-after i (omega arith))
 
-  good-left : (i : ℕ) → i < m → Good left i
-  good-left i h = let total = fitted .count-is in go (decLt i count)
+  good-after : (i : ℕ) → i < m → Good after i
+  good-after i h = let total = fitted .count-is in go (decLt i count)
     where
-      go : Dec (i < count) → Good left i
+      go : Dec (i < count) → Good after i
       go (yes b) = good-old i b
       go (no past) = good-new i (omega arith) (omega (arith, fitted .count-is))
 
-  pub live-left : Live left m
-  live-left = record {
-    room = rw left-length (fitted .enough);
-    good = good-left;
-    sized = λ i h. rw nodes-left (storable .sized i (omega (arith, fitted .count-is)));
+  pub live-after : Live after m
+  live-after = record {
+    room = rw after-length (fitted .enough);
+    good = good-after;
+    sized = λ i h. rw nodes-after (storable .sized i (omega (arith, fitted .count-is)));
   }
 
   -- and the tree under the new root is what the run makes of the tree
-  pub tree-left : treeOf m left root′ ≡ reduced (treeOf count words root)
-  tree-left = rw (nodes-left, ← (fitted .root-is)) (stands .is)
+  pub tree-after : treeOf m after root′ ≡ reduced (treeOf count words root)
+  tree-after = rw (nodes-after, ← (fitted .root-is)) (stands .is)
 
-  pub root-left : root′ < m
-  root-left = rw (← (fitted .root-is), ← (fitted .count-is)) (stands .bound)
+  pub root-after : root′ < m
+  root-after = rw (← (fitted .root-is), ← (fitted .count-is)) (stands .bound)
 
   -- they are words of 64 bits again: word k of the appended ones is node i's first or second
   module _ (k i : ℕ) (from : count ≤ i) (to : i < length (ran .arena)) where
-    word-new : (k ≡ nodeWords * i + 1) ⊎ (k ≡ nodeWords * i) → getD left k 0 < 2 ^ 64
+    word-new : (k ≡ nodeWords * i + 1) ⊎ (k ≡ nodeWords * i) → getD after k 0 < 2 ^ 64
     word-new (inl e) = rw (e, payload-new i from to) (storable .payloads i to)
     word-new (inr e) = rw (e, header-new i from to) (header-word (at (ran .arena) i) (narrow i to))
 
-  word-left : (k : ℕ) → Dec (k < nodeWords * count) → Dec (k < nodeWords * length (ran .arena)) → getD left k 0 < 2 ^ 64
-  word-left k (yes old) d = rw (left-kept k old) (call .words64 k)
-  word-left k (no past) (yes new) = word-new k (k / nodeWords) (omega arith) (omega arith) (second-or-first k)
-  word-left k (no past) (no later) = rw (left-is, appended-leaves words count ran grown room k (omega arith)) (call .words64 k)
+  word-after : (k : ℕ) → Dec (k < nodeWords * count) → Dec (k < nodeWords * length (ran .arena)) → getD after k 0 < 2 ^ 64
+  word-after k (yes old) d = rw (after-kept k old) (call .words64 k)
+  word-after k (no past) (yes new) = word-new k (k / nodeWords) (omega arith) (omega arith) (second-or-first k)
+  word-after k (no past) (no later) = rw (after-is, appended-leaves words count ran grown room k (omega arith)) (call .words64 k)
 
-  pub words64-left : Words64 left
-  words64-left k = word-left k (decLt k (nodeWords * count)) (decLt k (nodeWords * length (ran .arena)))
+  pub words64-after : Words64 after
+  words64-after k = word-after k (decLt k (nodeWords * count)) (decLt k (nodeWords * length (ran .arena)))
