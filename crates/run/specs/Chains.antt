@@ -19,9 +19,10 @@ use Rattle.format.specs.declared.Un.{Un}
 use Rattle.rules.specs.Rules.{binAct, unAct}
 use Rattle.rules.specs.Run.{Out, out, append, makeConst, acted, keptAs, unaryRun, binaryRun, weight, simplified}
 use Rattle.rules.specs.declared.Act.{Act}
+use Rattle.theory.specs.Normal.{Normal}
 use Rattle.theory.specs.Simulation.{Stands, simplified-stands}
 use Rattle.theory.specs.TreeRun.{actedTree}
-use Rattle.theory.specs.Visits.{redoes, carried, redone, not-redone, one-below, one-eq, one-grows, one-falls, one-lighter, two-below, two-eq, left-grows, right-grows, left-falls, right-falls, two-lighter, carriedTwo, carried-two-stands, carried-two-lighter, carriedOne, carried-one-stands, carried-one-lighter}
+use Rattle.theory.specs.Visits.{redoes, carried, redone, not-redone, one-below, one-eq, one-grows, one-falls, one-lighter, two-below, two-eq, left-grows, right-grows, left-falls, right-falls, two-lighter, OverNormal, carriedTwo, carried-two-stands, carried-two-lighter, carried-two-over-normal, carriedOne, carried-one-stands, carried-one-lighter, carried-one-over-normal}
 use Rattle.tree.specs.Arena.{nodeAt, nodesOf, at, treeAt, Ordered}
 use Rattle.tree.specs.ArenaLaws.{length-nodesOf, at-nodesOf, length-appended}
 use Rattle.tree.specs.Tree.{Tree, unary, binary, isTop}
@@ -161,6 +162,12 @@ module _ (words : List ℕ) (n : ℕ) (live : Live words n) (i : ℕ) (hi : i < 
       rw (h .ran .nodes-are, h .ran .root-is, same-part)
       (carried-two-lighter (nodesOf n words) (live-ordered live) i (inside i hi) s op j k (at-nodesOf n words i hi ∙ e) a b (inside a ha) (inside b hb) (rw eA at q))
 
+  pub two-redo-over-normal : (mid : List ℕ) (root m : ℕ) → redoes act ≡ true → Ended words mid n partTwo (Step.Done root m) → Normal (treeOf n words a) → Normal (treeOf n words b) →
+      OverNormal (treeOf m mid root)
+  two-redo-over-normal mid root m q h p p′ =
+      rw (h .ran .nodes-are, h .ran .root-is, same-part)
+      (carried-two-over-normal (nodesOf n words) (live-ordered live) i (inside i hi) s op j k (at-nodesOf n words i hi ∙ e) a b (inside a ha) (inside b hb) (rw eA at q) p p′)
+
 -- and on a node of one
 module _ (words : List ℕ) (n : ℕ) (live : Live words n) (i : ℕ) (hi : i < n) (op : Un) (s j : ℕ) (e : nodeAt words i ≡ Node.Unary op s j) (a : ℕ) (ha : a < n)
     (act : Act) (eA : act ≡ unAct op s (treeOf n words a)) (kept : Bool) (ek : kept ≡ eqb a j) where
@@ -201,6 +208,11 @@ module _ (words : List ℕ) (n : ℕ) (live : Live words n) (i : ℕ) (hi : i < 
   one-redo-falls mid root m q h =
       rw (h .ran .nodes-are, h .ran .root-is, same-part-one)
       (carried-one-lighter (nodesOf n words) (live-ordered live) i (inside-one i hi) s op j (at-nodesOf n words i hi ∙ e) a (inside-one a ha) (rw eA at q))
+
+  pub one-redo-over-normal : (mid : List ℕ) (root m : ℕ) → redoes act ≡ true → Ended words mid n partOne (Step.Done root m) → Normal (treeOf n words a) → OverNormal (treeOf m mid root)
+  one-redo-over-normal mid root m q h p =
+      rw (h .ran .nodes-are, h .ran .root-is, same-part-one)
+      (carried-one-over-normal (nodesOf n words) (live-ordered live) i (inside-one i hi) s op j (at-nodesOf n words i hi ∙ e) a (inside-one a ha) (rw eA at q) p)
 
 -- A NODE, after the run of a child
 

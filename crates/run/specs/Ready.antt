@@ -8,7 +8,7 @@ use lib.ListN.{length}
 use Rattle.acts.specs.Operated.{UnaryOver, BinaryOver}
 use Rattle.arena.specs.Ended.{Ended}
 use Rattle.arena.specs.Live.{Live, New, treeOf, nodeIsTop}
-use Rattle.arena.specs.LiveLaws.{live-ordered, top-at, tree-of-node}
+use Rattle.arena.specs.LiveLaws.{live-ordered, in-arena, top-at, tree-of-node}
 use Rattle.arena.specs.declared.Step.{Step}
 use Rattle.format.specs.Truth.{or-left, or-right, or-neither}
 use Rattle.format.specs.declared.Bin.{Bin}
@@ -18,23 +18,23 @@ use Rattle.format.specs.declared.Un.{Un}
 use Rattle.rules.specs.Run.{Out, out, unaryRun, binaryRun, weight, simplified}
 use Rattle.run.specs.Chains.{after-run, ended-here, unary-child, unary-ended, unary-lighter, binary-children, binary-ended, binary-lighter, right-lighter}
 use Rattle.run.specs.Visits.{OneAt, TwoAt}
-use Rattle.theory.specs.Normal.{normal-top}
+use Rattle.theory.specs.Normal.{Normal, normal-top}
 use Rattle.theory.specs.Reduced.{reduced-normal, reduced-top}
 use Rattle.theory.specs.Simulation.{simplified-stands}
 use Rattle.theory.specs.TreeRun.{reduced}
 use Rattle.theory.specs.Values.{over-reduced-one, over-reduced-two}
-use Rattle.theory.specs.Visits.{leaf-top, leaf-entry, leaf-const, leaf-bind}
+use Rattle.theory.specs.Visits.{OverNormal, one-over-normal, two-over-normal, leaf-top, leaf-entry, leaf-const, leaf-bind}
 use Rattle.tree.specs.Arena.{nodeAt, nodesOf, treeAt}
 use Rattle.tree.specs.ArenaLaws.{length-nodesOf, at-nodesOf, tree-stays}
 use Rattle.tree.specs.Form.{Sized, sized, unSizing, binSizing, sizeSeen}
 use Rattle.tree.specs.Tree.{Tree, unary, binary, isTop, hasTop}
 
--- node i has the child j, which has become a: where that is not Top, no Top is reached from it, and the node over it is well sized
+-- node i has the child j, which has become a, a simplified tree: where that is not Top, the node over it is well sized
 pub record OneReady (words : List ℕ) (count i : ℕ) (op : Un) (s j a : ℕ) : Type 0 where
   pub below : i < count
   pub node-is : nodeAt words i ≡ Node.Unary op s j
   pub child-below : a < count
-  pub child-top : isTop (treeOf count words a) ≡ hasTop (treeOf count words a)
+  pub child-normal : Normal (treeOf count words a)
   pub sized-over : isTop (treeOf count words a) ≡ false → sized (unSizing op) s 0 (sizeSeen (treeOf count words a)) ChildSize.Absent ≡ true
 
 pub record TwoReady (words : List ℕ) (count i : ℕ) (op : Bin) (s j k a b : ℕ) : Type 0 where
@@ -42,10 +42,15 @@ pub record TwoReady (words : List ℕ) (count i : ℕ) (op : Bin) (s j k a b : �
   pub node-is : nodeAt words i ≡ Node.Binary op s j k
   pub left-below : a < count
   pub right-below : b < count
-  pub left-top : isTop (treeOf count words a) ≡ hasTop (treeOf count words a)
-  pub right-top : isTop (treeOf count words b) ≡ hasTop (treeOf count words b)
+  pub left-normal : Normal (treeOf count words a)
+  pub right-normal : Normal (treeOf count words b)
   pub sized-over : isTop (treeOf count words a) ≡ false → isTop (treeOf count words b) ≡ false →
       sized (binSizing op) s 0 (sizeSeen (treeOf count words a)) (sizeSeen (treeOf count words b)) ≡ true
+
+-- what a visit may rely on: `ready` tells that the node's children are simplified already
+abbrev pub Prepared : (ready : Bool) → Tree → Type 0
+Prepared true t = OverNormal t
+Prepared false t = Unit {0}
 
 -- the rest of the visit
 abbrev pub afterOne : List ℕ → (count i : ℕ) → Un → (s j a : ℕ) → Out
@@ -60,25 +65,31 @@ new-top arena = record { below = tt; narrow = tt; sized = tt }
 
 -- NOT TOP, so the rule may look
 
+topless : (t : Tree) → Normal t → isTop t ≡ false → hasTop t ≡ false
+topless t p e = sym (normal-top t p) ∙ e
+
 pub one-at : {words : List ℕ} {count i : ℕ} {op : Un} {s j a : ℕ} → OneReady words count i op s j a → isTop (treeOf count words a) ≡ false → OneAt words count i op s j a
-one-at r e = record {
+one-at {words} {count} {i} {op} {s} {j} {a} r e = record {
   below = r .below;
   node-is = r .node-is;
-  over = record { below = r .child-below; topless = sym (r .child-top) ∙ e; sized-over = r .sized-over e };
+  over = record { below = r .child-below; topless = topless (treeOf count words a) (r .child-normal) e; sized-over = r .sized-over e };
+  normal = r .child-normal;
 }
 
 pub two-at : {words : List ℕ} {count i : ℕ} {op : Bin} {s j k a b : ℕ} → TwoReady words count i op s j k a b → isTop (treeOf count words a) ≡ false →
     isTop (treeOf count words b) ≡ false → TwoAt words count i op s j k a b
-two-at r e f = record {
+two-at {words} {count} {i} {op} {s} {j} {k} {a} {b} r e f = record {
   below = r .below;
   node-is = r .node-is;
   over = record {
     left-below = r .left-below;
     right-below = r .right-below;
-    left-topless = sym (r .left-top) ∙ e;
-    right-topless = sym (r .right-top) ∙ f;
+    left-topless = topless (treeOf count words a) (r .left-normal) e;
+    right-topless = topless (treeOf count words b) (r .right-normal) f;
     sized-over = r .sized-over e f;
   };
+  left-normal = r .left-normal;
+  right-normal = r .right-normal;
 }
 
 -- what the test of a node that was read tells of its tree
@@ -87,9 +98,6 @@ pub top-read : {words : List ℕ} {count : ℕ} → Live words count → (a : �
 top-read live a h node test answer p q r = top-at live a h ∙ ap nodeIsTop (sym p) ∙ sym q ∙ r
 
 -- THE CHILDREN ARE REDUCED TREES
-
-reduced-isTop : (t : Tree) → isTop (reduced t) ≡ hasTop (reduced t)
-reduced-isTop t = normal-top (reduced t) (reduced-normal t)
 
 module _ {words : List ℕ} {n : ℕ} (live : Live words n) (i : ℕ) (hi : i < n) where
   module _ (op : Un) (s j : ℕ) (e : nodeAt words i ≡ Node.Unary op s j) (mid : List ℕ) (a m : ℕ) (h : Ended words mid n (simplified (nodesOf n words) j) (Step.Done a m)) where
@@ -112,7 +120,7 @@ module _ {words : List ℕ} {n : ℕ} (live : Live words n) (i : ℕ) (hi : i < 
           below = omega (arith, f .more);
           node-is = f .same-node ∙ e;
           child-below = f .below;
-          child-top = rw child-is (reduced-isTop (treeOf n words j));
+          child-normal = rw child-is (reduced-normal (treeOf n words j));
           sized-over = λ q. rw child-is (over-reduced-one op s (treeOf n words j) node-sized (free q) .0);
         }
 
@@ -164,10 +172,64 @@ module _ {words : List ℕ} {n : ℕ} (live : Live words n) (i : ℕ) (hi : i < 
             node-is = f′ .same-node ∙ f .same-node ∙ e;
             left-below = omega (arith, f .below, f′ .more);
             right-below = f′ .below;
-            left-top = rw left-stays (reduced-isTop (treeOf n words j));
-            right-top = rw right-is (reduced-isTop (treeOf n words k));
+            left-normal = rw left-stays (reduced-normal (treeOf n words j));
+            right-normal = rw right-is (reduced-normal (treeOf n words k));
             sized-over = λ q r. rw (left-stays, right-is) (over-reduced-two op s (treeOf n words j) (treeOf n words k) both-sized (both-free q r) .0);
           }
+
+-- THE CHILDREN ARE SIMPLIFIED ALREADY: nothing is visited, and the node's own children are what they have become
+
+module _ {words : List ℕ} {n : ℕ} (live : Live words n) (i : ℕ) (hi : i < n) (ready : Bool) (is : ready ≡ true) (p : Prepared ready (treeOf n words i)) where
+  module _ (op : Un) (s j : ℕ) (e : nodeAt words i ≡ Node.Unary op s j) where
+    tree-is : treeOf n words i ≡ unary op s (treeOf n words j)
+    tree-is = tree-of-node live i hi (Node.Unary op s j) e
+
+    normal : Normal (treeOf n words j)
+    normal = rw (is, tree-is) at p
+
+    own-sized : Sized (unary op s (treeOf n words j))
+    own-sized = rw tree-is at (live .sized i hi)
+
+    pub one-prepared : OneReady words n i op s j j
+    one-prepared =
+        record { below = hi; node-is = e; child-below = unary-child live i hi op s j e .0; child-normal = normal; sized-over = λ q. own-sized .0 }
+
+    pub one-same-weight : weight (unary op s (treeOf n words j)) ≡ weight (treeOf n words i)
+    one-same-weight = ap weight (sym tree-is)
+
+    pub one-prepared-ended : (after : List ℕ) (x : Step) → Ended words after n (afterOne words n i op s j j) x → Ended words after n (simplified (nodesOf n words) i) x
+    one-prepared-ended after x h =
+        rw (one-over-normal (nodesOf n words) (live-ordered live) i (in-arena live i hi) op s j (at-nodesOf n words i hi ∙ e) normal) h
+
+  module _ (op : Bin) (s j k : ℕ) (e : nodeAt words i ≡ Node.Binary op s j k) where
+    tree-of-two : treeOf n words i ≡ binary op s (treeOf n words j) (treeOf n words k)
+    tree-of-two = tree-of-node live i hi (Node.Binary op s j k) e
+
+    normals : Normal (treeOf n words j) × Normal (treeOf n words k)
+    normals = rw (is, tree-of-two) at p
+
+    two-sized : Sized (binary op s (treeOf n words j) (treeOf n words k))
+    two-sized = rw tree-of-two at (live .sized i hi)
+
+    pub two-prepared : TwoReady words n i op s j k j k
+    two-prepared =
+        let kids = binary-children live i hi op s j k e in
+        record {
+          below = hi;
+          node-is = e;
+          left-below = kids .0;
+          right-below = kids .1;
+          left-normal = normals .0;
+          right-normal = normals .1;
+          sized-over = λ q r. two-sized .0;
+        }
+
+    pub two-same-weight : weight (binary op s (treeOf n words j) (treeOf n words k)) ≡ weight (treeOf n words i)
+    two-same-weight = ap weight (sym tree-of-two)
+
+    pub two-prepared-ended : (after : List ℕ) (x : Step) → Ended words after n (afterTwo words n i op s j k j k) x → Ended words after n (simplified (nodesOf n words) i) x
+    two-prepared-ended after x h =
+        rw (two-over-normal (nodesOf n words) (live-ordered live) i (in-arena live i hi) op s j k (at-nodesOf n words i hi ∙ e) (normals .0) (normals .1)) h
 
 -- A LEAF IS ITSELF
 

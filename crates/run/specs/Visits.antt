@@ -15,9 +15,10 @@ use Rattle.format.specs.declared.Un.{Un}
 use Rattle.rules.specs.Rules.{binAct, unAct}
 use Rattle.rules.specs.Run.{Out, append, keptAs, unaryRun, binaryRun, weight, simplified}
 use Rattle.rules.specs.declared.Act.{Act}
-use Rattle.run.specs.Chains.{two-unfinished, two-done, two-again, two-falls, one-unfinished, one-done, one-again, one-redo-falls}
+use Rattle.run.specs.Chains.{two-unfinished, two-done, two-again, two-falls, two-redo-over-normal, one-unfinished, one-done, one-again, one-redo-falls, one-redo-over-normal}
 use Rattle.run.specs.declared.Outcome.{Outcome}
-use Rattle.theory.specs.Visits.{redoes, carried}
+use Rattle.theory.specs.Normal.{Normal}
+use Rattle.theory.specs.Visits.{redoes, carried, OverNormal}
 use Rattle.tree.specs.Arena.{nodeAt, nodesOf}
 use Rattle.tree.specs.Tree.{unary, binary}
 
@@ -27,17 +28,20 @@ outcomeOf false (Step.Done root n) = Outcome.Done root n
 outcomeOf true Step.NoRoom = Outcome.NoRoom
 outcomeOf false Step.NoRoom = Outcome.NoRoom
 
--- node i has the child j, which has become a
+-- node i has the child j, which has become a, a simplified tree
 pub record OneAt (words : List ℕ) (count i : ℕ) (op : Un) (s j a : ℕ) : Type 0 where
   pub below : i < count
   pub node-is : nodeAt words i ≡ Node.Unary op s j
   pub over : UnaryOver words count op s a
+  pub normal : Normal (treeOf count words a)
 
--- node i has the children j and k, which have become a and b
+-- node i has the children j and k, which have become a and b, simplified trees
 pub record TwoAt (words : List ℕ) (count i : ℕ) (op : Bin) (s j k a b : ℕ) : Type 0 where
   pub below : i < count
   pub node-is : nodeAt words i ≡ Node.Binary op s j k
   pub over : BinaryOver words count op s a b
+  pub left-normal : Normal (treeOf count words a)
+  pub right-normal : Normal (treeOf count words b)
 
 -- what the rule's action makes of the arena, short of simplifying again
 abbrev pub onePart : List ℕ → (count i : ℕ) → Un → (s j a : ℕ) → Out
@@ -102,6 +106,11 @@ module _ {words : List ℕ} {count : ℕ} (live : Live words count) where
     one-again-falls mid root n h =
         one-redo-falls words count live i (at .below) op s j (at .node-is) a (at .over .below) (unAct op s (treeOf count words a)) refl (eqb a j) refl mid root n (h .0) (h .1)
 
+    pub one-again-over-normal : (mid : List ℕ) (root n : ℕ) → OneRan words mid count i op s j a (Outcome.Again root n) → OverNormal (treeOf n mid root)
+    one-again-over-normal mid root n h =
+        one-redo-over-normal words count live i (at .below) op s j (at .node-is) a (at .over .below) (unAct op s (treeOf count words a)) refl (eqb a j) refl mid root n (h .0) (h .1)
+        (at .normal)
+
   module _ {i : ℕ} {op : Bin} {s j k a b : ℕ} (at : TwoAt words count i op s j k a b) where
     abbrev decided : Act
     decided = binAct op s (treeOf count words a) (treeOf count words b)
@@ -130,6 +139,11 @@ module _ {words : List ℕ} {count : ℕ} (live : Live words count) where
         weight (treeOf n mid root) < weight (binary op s (treeOf count words a) (treeOf count words b))
     two-again-falls mid root n h =
         two-falls words count live i (at .below) op s j k (at .node-is) a b (at .over .left-below) (at .over .right-below) decided refl (eqb a j && eqb b k) refl mid root n (h .0) (h .1)
+
+    pub two-again-over-normal : (mid : List ℕ) (root n : ℕ) → TwoRan words mid count i op s j k a b (Outcome.Again root n) → OverNormal (treeOf n mid root)
+    two-again-over-normal mid root n h =
+        two-redo-over-normal words count live i (at .below) op s j k (at .node-is) a b (at .over .left-below) (at .over .right-below) decided refl (eqb a j && eqb b k) refl mid root n
+        (h .0) (h .1) (at .left-normal) (at .right-normal)
 
 pub no-room-either : (again : Bool) → Outcome.NoRoom ≡ outcomeOf again Step.NoRoom
 no-room-either true = refl

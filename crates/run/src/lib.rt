@@ -4,10 +4,10 @@ ghost use Prim.Native.Nat.{_<_};
 ghost use Rattle.tree.specs.Arena.{nodeAt, nodesOf};
 ghost use Rattle.rules.specs.Run.{append, keptAs, makeConst, simplified};
 ghost use Rattle.theory.specs.Visits.{redoes as redoesAct, carried};
-ghost use Rattle.arena.specs.Live.{Live};
+ghost use Rattle.arena.specs.Live.{Live, treeOf};
 ghost use Rattle.arena.specs.Ended.{Ended};
 ghost use Rattle.arith.specs.Operands.{Size};
-ghost use Rattle.run.specs.Ready.{OneReady, TwoReady, afterOne, afterTwo};
+ghost use Rattle.run.specs.Ready.{OneReady, TwoReady, Prepared, afterOne, afterTwo};
 ghost use Rattle.run.specs.Settled.{Settles};
 ghost use Rattle.run.specs.Visits.{OneAt, TwoAt, OneRan, TwoRan, oneWhole, twoWhole, outcomeOf};
 ghost use Rattle.run.specs.Turns.{turnOf};
@@ -231,7 +231,7 @@ fn add_rule(
     match two_rule(words, count, i, Bin::Add, size, j, k, a, b) {
         Outcome::NoRoom => Step::NoRoom,
         Outcome::Done(root, n) => Step::Done(root, n),
-        Outcome::Again(root, n) => dispatch(words, n, root),
+        Outcome::Again(root, n) => visit(words, n, root, true),
     }
 }
 
@@ -252,7 +252,7 @@ fn sub_rule(
     match two_rule(words, count, i, Bin::Sub, size, j, k, a, b) {
         Outcome::NoRoom => Step::NoRoom,
         Outcome::Done(root, n) => Step::Done(root, n),
-        Outcome::Again(root, n) => dispatch(words, n, root),
+        Outcome::Again(root, n) => visit(words, n, root, true),
     }
 }
 
@@ -264,7 +264,7 @@ fn sext_rule(words: &mut [u64], count: usize, i: usize, size: u64, j: usize, a: 
     match one_rule(words, count, i, Un::SignExtend, size, j, a) {
         Outcome::NoRoom => Step::NoRoom,
         Outcome::Done(root, n) => Step::Done(root, n),
-        Outcome::Again(root, n) => dispatch(words, n, root),
+        Outcome::Again(root, n) => visit(words, n, root, true),
     }
 }
 
@@ -354,10 +354,11 @@ fn visit_two(
     }
 }
 
-// Simplifies node i: a leaf is itself.
-pub fn dispatch(words: &mut [u64], count: usize, i: usize) -> Step
+// Visits node i: a leaf is itself. `ready` tells that a rule has rebuilt the node over simplified children: to visit them
+// would append nothing and return their indices, so what comes after them is done at once.
+fn visit(words: &mut [u64], count: usize, i: usize, ready: bool) -> Step
     requires { ⌜ Live (now words) count ⌝ }
-    requires { ⌜ i < count ⌝ }
+    requires { ⌜ (i < count) × Prepared ready (treeOf count (now words) i) ⌝ }
     ensures { λ r. ⌜ Ended (now (words .entry)) (now (words .exit)) count (simplified (nodesOf count (now (words .entry))) i) r ⌝ }
 {
     match arena::node_at(words, i) {
@@ -365,7 +366,26 @@ pub fn dispatch(words: &mut [u64], count: usize, i: usize) -> Step
         Node::Entry(_, _, _) => Step::Done(i, count),
         Node::Const(_, _) => Step::Done(i, count),
         Node::Bind(_, _) => Step::Done(i, count),
-        Node::Unary(op, size, j) => visit_one(words, count, i, op, size, j),
-        Node::Binary(op, size, j, k) => visit_two(words, count, i, op, size, j, k),
+        Node::Unary(op, size, j) => {
+            if ready {
+                return after_one(words, count, i, op, size, j, j);
+            }
+            visit_one(words, count, i, op, size, j)
+        }
+        Node::Binary(op, size, j, k) => {
+            if ready {
+                return after_two(words, count, i, op, size, j, k, j, k);
+            }
+            visit_two(words, count, i, op, size, j, k)
+        }
     }
+}
+
+// Simplifies node i.
+pub fn dispatch(words: &mut [u64], count: usize, i: usize) -> Step
+    requires { ⌜ Live (now words) count ⌝ }
+    requires { ⌜ i < count ⌝ }
+    ensures { λ r. ⌜ Ended (now (words .entry)) (now (words .exit)) count (simplified (nodesOf count (now (words .entry))) i) r ⌝ }
+{
+    visit(words, count, i, false)
 }

@@ -40,7 +40,7 @@ left-topless (unary op s a) h = h
 left-topless (binary op s a b) h = or-left _ _ h
 
 module _ (a b : Tree) where
-  near-normal : (w : Near) → Normal a → Normal b → Normal (nearTree w a b)
+  pub near-normal : (w : Near) → Normal a → Normal b → Normal (nearTree w a b)
   near-normal Near.Left p q = p
   near-normal Near.Right p q = q
   near-normal Near.LeftLeft p q = left-normal a p

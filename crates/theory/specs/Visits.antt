@@ -14,12 +14,13 @@ use Rattle.rules.specs.Rules.{binAct, unAct}
 use Rattle.rules.specs.Run.{Out, out, append, acted, keptAs, unaryRun, binaryRun, visit, isSub, weight, simplified}
 use Rattle.rules.specs.declared.Act.{Act}
 use Rattle.theory.specs.Falls.{sub-le, Falls, unary-falls, binary-falls}
-use Rattle.theory.specs.Reduced.{reduced-nodes}
-use Rattle.theory.specs.Simulation.{Stands, Simulates, onward, appended-stands, acted-stands, kept-unary, kept-binary, unary-stands, binary-stands, simplified-stands, simplified-eq}
+use Rattle.theory.specs.Normal.{Normal}
+use Rattle.theory.specs.Reduced.{near-normal, reduced-nodes}
+use Rattle.theory.specs.Simulation.{Stands, Simulates, onward, run-on-normal, appended-stands, acted-stands, kept-unary, kept-binary, unary-stands, binary-stands, simplified-stands, simplified-eq}
 use Rattle.theory.specs.TreeRun.{actedTree, unaryTree, binaryTree, reduced}
 use Rattle.tree.specs.Arena.{at, treeAt, Ordered}
 use Rattle.tree.specs.ArenaLaws.{Extends, extends-refl, extends-trans, tree-stays, tree-eq}
-use Rattle.tree.specs.Tree.{Tree, unary, binary, path, isTop}
+use Rattle.tree.specs.Tree.{Tree, top, entry, const, bind, unary, binary, path, isTop}
 
 -- WHETHER AN ACTION IS SIMPLIFIED AGAIN, and what is left where it is not
 
@@ -63,6 +64,25 @@ redo-lighter (Act.Make v) W P kept swapped s a b e f = let z : _≡_ {A = ℕ} 0
 redo-lighter (Act.Redo op w v) W P kept swapped s a b e f = omega (arith, f .falls)
 redo-lighter (Act.RedoUnary op w) W P kept swapped s a b e f = omega (arith, f .falls)
 
+-- a node whose children are simplified already
+abbrev pub OverNormal : Tree → Type 0
+OverNormal top = Unit {0}
+OverNormal (entry s space offset) = Unit {0}
+OverNormal (const s v) = Unit {0}
+OverNormal (bind s id) = Unit {0}
+OverNormal (unary op s a) = Normal a
+OverNormal (binary op s a b) = Normal a × Normal b
+
+-- what is simplified again is such a node: a rule rebuilds it over a part of a simplified child, and a constant
+redo-over-normal : (act : Act) (kept swapped : Tree) (s : ℕ) (a b : Tree) → redoes act ≡ true → Normal a → Normal b →
+    OverNormal (actedTree (λ (t : Tree). t) act kept swapped s a b)
+redo-over-normal Act.Keep kept swapped s a b e p q = let z : _≡_ {A = ℕ} 0 1 = cc in absurd (omega arith)
+redo-over-normal Act.Swap kept swapped s a b e p q = let z : _≡_ {A = ℕ} 0 1 = cc in absurd (omega arith)
+redo-over-normal (Act.Give w) kept swapped s a b e p q = let z : _≡_ {A = ℕ} 0 1 = cc in absurd (omega arith)
+redo-over-normal (Act.Make v) kept swapped s a b e p q = let z : _≡_ {A = ℕ} 0 1 = cc in absurd (omega arith)
+redo-over-normal (Act.Redo op w v) kept swapped s a b e p q = (near-normal a b w p q, tt)
+redo-over-normal (Act.RedoUnary op w) kept swapped s a b e p q = near-normal a b w p q
+
 still : Simulates out (λ (t : Tree). t)
 still arena w i b = record { ordered = w; extends = extends-refl arena; bound = b; is = refl }
 
@@ -94,6 +114,12 @@ module _ (arena : List Node) (w : Ordered arena) (i : ℕ) (b : i < length arena
     one-eq after a p q =
         simplified-eq arena w i b ∙ ap (visit simplified arena i) e
         ∙ ap₂ (λ (z : List Node) (a : ℕ). unaryRun simplified (isTop (treeAt z a)) i op s j z a) (sym p) (sym q)
+
+    -- a visit of a child that is simplified already appends nothing and ends at the child
+    pub one-over-normal : Normal (treeAt arena j) → simplified arena i ≡ unaryRun simplified (isTop (treeAt arena j)) i op s j arena j
+    one-over-normal p =
+        let x = sym (run-on-normal arena w (weight (treeAt arena j)) j hj p) in
+        one-eq arena j (ap (λ (o : Out). o .arena) x) (ap (λ (o : Out). o .index) x)
 
     one-stands : (c : Bool) → Stands (simplified arena j .arena) (unaryTree reduced c op s (treeAt (simplified arena j .arena) (simplified arena j .index)))
         (unaryRun simplified c i op s j (simplified arena j .arena) (simplified arena j .index))
@@ -140,6 +166,14 @@ module _ (arena : List Node) (w : Ordered arena) (i : ℕ) (b : i < length arena
         simplified-eq arena w i b ∙ ap (visit simplified arena i) e
         ∙ ap₂ (λ (y : List Node) (a : ℕ). binaryRun simplified (isTop (treeAt (simplified y k .arena) a) || isTop (treeAt (simplified y k .arena) (simplified y k .index))) i op s j k (simplified y k .arena) a (simplified y k .index)) (sym p) (sym q)
         ∙ ap₂ (λ (z : List Node) (c : ℕ). binaryRun simplified (isTop (treeAt z a) || isTop (treeAt z c)) i op s j k z a c) (sym p′) (sym q′)
+
+    pub two-over-normal : Normal (treeAt arena j) → Normal (treeAt arena k) →
+        simplified arena i ≡ binaryRun simplified (isTop (treeAt arena j) || isTop (treeAt arena k)) i op s j k arena j k
+    two-over-normal p q =
+        let z = two-below .1 in
+        let x = sym (run-on-normal arena w (weight (treeAt arena j)) j left-inside p) in
+        let y = sym (run-on-normal arena w (weight (treeAt arena k)) k (omega arith) q) in
+        two-eq arena arena j k (ap (λ (o : Out). o .arena) x) (ap (λ (o : Out). o .index) x) (ap (λ (o : Out). o .arena) y) (ap (λ (o : Out). o .index) y)
 
     two-stands : (c : Bool) → Stands (simplified (simplified arena j .arena) k .arena)
         (binaryTree reduced c op s (treeAt (simplified (simplified arena j .arena) k .arena) (simplified arena j .index)) (treeAt (simplified (simplified arena j .arena) k .arena) (simplified (simplified arena j .arena) k .index)))
@@ -192,6 +226,11 @@ module _ (arena : List Node) (w : Ordered arena) (i : ℕ) (b : i < length arena
         rw (carried-two-stands .is)
         (redo-lighter (binAct op s (treeAt arena x) (treeAt arena y)) _ _ _ _ s _ _ q (binary-falls op s (treeAt arena x) (treeAt arena y)))
 
+    pub carried-two-over-normal : redoes (binAct op s (treeAt arena x) (treeAt arena y)) ≡ true → Normal (treeAt arena x) → Normal (treeAt arena y) →
+        OverNormal (treeAt (carriedTwo .arena) (carriedTwo .index))
+    carried-two-over-normal r p q =
+        rw (carried-two-stands .is) (redo-over-normal (binAct op s (treeAt arena x) (treeAt arena y)) _ _ s (treeAt arena x) (treeAt arena y) r p q)
+
   module _ (op : Un) (j : ℕ) (e : at arena i ≡ Node.Unary op s j) (x : ℕ) (hx : x < length arena) where
     abbrev pub carriedOne : Out
     carriedOne = carried (unAct op s (treeAt arena x)) (keptAs (eqb x j) i (Node.Unary op s x) arena) (append (Node.Unary op s x) arena) s arena x x
@@ -207,3 +246,6 @@ module _ (arena : List Node) (w : Ordered arena) (i : ℕ) (b : i < length arena
         weight (treeAt (carriedOne .arena) (carriedOne .index)) < weight (unary op s (treeAt arena x))
     carried-one-lighter q =
         rw (carried-one-stands .is) (redo-lighter (unAct op s (treeAt arena x)) _ _ _ _ s _ _ q (unary-falls op s (treeAt arena x)))
+
+    pub carried-one-over-normal : redoes (unAct op s (treeAt arena x)) ≡ true → Normal (treeAt arena x) → OverNormal (treeAt (carriedOne .arena) (carriedOne .index))
+    carried-one-over-normal r p = rw (carried-one-stands .is) (redo-over-normal (unAct op s (treeAt arena x)) _ _ s (treeAt arena x) (treeAt arena x) r p p)

@@ -1,5 +1,5 @@
--- Dispatch, Add, Sub and SignExtend call one another. What falls is four times the weight of the tree that a call is on, twice its nodes and
--- one more for a Sub at its root, with 3 more for dispatch, 2 for a visit of the children and 1 for what comes after them. Assumes nothing.
+-- Dispatch, Add, Sub and SignExtend call one another. What falls is five times the weight of the tree that a call is on, twice its nodes and
+-- one more for a Sub at its root, with 4 more for dispatch, 3 for a visit, 2 for that of the children and 1 for what comes after them. Assumes nothing.
 use Prim.Native.Nat.{ℕ, _+_, _*_, _<_}
 use borrow.Author.Needs.{needs}
 use borrow.Fn.Kinds.{In}
@@ -16,21 +16,22 @@ use Rattle.format.specs.declared.Bin.{Bin}
 use Rattle.format.specs.declared.Un.{Un}
 use Rattle.rules.specs.Run.{isSub, weight}
 use Rattle.run.specs.Chains.{unary-child, unary-lighter, unary-unfinished, unary-ended, binary-children, right-lighter, binary-lighter, left-unfinished, right-unfinished, binary-ended}
-use Rattle.run.specs.Ready.{new-top, one-at, two-at, top-read, one-ready, right-child, two-ready, ended-top, ended-entry, ended-const, ended-bind}
+use Rattle.run.specs.Ready.{new-top, one-at, two-at, top-read, one-ready, right-child, two-ready, one-prepared, one-same-weight, one-prepared-ended, two-prepared, two-same-weight, two-prepared-ended, ended-top, ended-entry, ended-const, ended-bind}
 use Rattle.run.specs.Turns.{turn-add, turn-sub}
-use Rattle.run.specs.Visits.{one-again-ended, one-again-falls, two-again-ended, two-again-falls}
+use Rattle.run.specs.Visits.{one-again-ended, one-again-falls, one-again-over-normal, two-again-ended, two-again-falls, two-again-over-normal}
 use Rattle.tree.specs.Arena.{nodesOf}
 use Rattle.tree.specs.Tree.{unary, binary, isTop}
-use Rattle.run.proofs.+add_rule+after_one+after_two+dispatch+sext_rule+sub_rule+visit_one+visit_two.Lts-add_rule as add-rule-lts
-use Rattle.run.proofs.+add_rule+after_one+after_two+dispatch+sext_rule+sub_rule+visit_one+visit_two.Lts-after_one as after-one-lts
-use Rattle.run.proofs.+add_rule+after_one+after_two+dispatch+sext_rule+sub_rule+visit_one+visit_two.Lts-after_two as after-two-lts
-use Rattle.run.proofs.+add_rule+after_one+after_two+dispatch+sext_rule+sub_rule+visit_one+visit_two.Lts-dispatch as dispatch-lts
-use Rattle.run.proofs.+add_rule+after_one+after_two+dispatch+sext_rule+sub_rule+visit_one+visit_two.Lts-sext_rule as sext-rule-lts
-use Rattle.run.proofs.+add_rule+after_one+after_two+dispatch+sext_rule+sub_rule+visit_one+visit_two.Lts-sub_rule as sub-rule-lts
-use Rattle.run.proofs.+add_rule+after_one+after_two+dispatch+sext_rule+sub_rule+visit_one+visit_two.Lts-visit_one as visit-one-lts
-use Rattle.run.proofs.+add_rule+after_one+after_two+dispatch+sext_rule+sub_rule+visit_one+visit_two.Lts-visit_two as visit-two-lts
-use Rattle.run.proofs.+add_rule+after_one+after_two+dispatch+sext_rule+sub_rule+visit_one+visit_two.Tie.{close}
-use Rattle.run.proofs.+add_rule+after_one+after_two+dispatch+sext_rule+sub_rule+visit_one+visit_two.{statement}
+use Rattle.run.proofs.+add_rule+after_one+after_two+dispatch+sext_rule+sub_rule+visit+visit_one+visit_two.Lts-add_rule as add-rule-lts
+use Rattle.run.proofs.+add_rule+after_one+after_two+dispatch+sext_rule+sub_rule+visit+visit_one+visit_two.Lts-after_one as after-one-lts
+use Rattle.run.proofs.+add_rule+after_one+after_two+dispatch+sext_rule+sub_rule+visit+visit_one+visit_two.Lts-after_two as after-two-lts
+use Rattle.run.proofs.+add_rule+after_one+after_two+dispatch+sext_rule+sub_rule+visit+visit_one+visit_two.Lts-dispatch as dispatch-lts
+use Rattle.run.proofs.+add_rule+after_one+after_two+dispatch+sext_rule+sub_rule+visit+visit_one+visit_two.Lts-sext_rule as sext-rule-lts
+use Rattle.run.proofs.+add_rule+after_one+after_two+dispatch+sext_rule+sub_rule+visit+visit_one+visit_two.Lts-sub_rule as sub-rule-lts
+use Rattle.run.proofs.+add_rule+after_one+after_two+dispatch+sext_rule+sub_rule+visit+visit_one+visit_two.Lts-visit as visit-lts
+use Rattle.run.proofs.+add_rule+after_one+after_two+dispatch+sext_rule+sub_rule+visit+visit_one+visit_two.Lts-visit_one as visit-one-lts
+use Rattle.run.proofs.+add_rule+after_one+after_two+dispatch+sext_rule+sub_rule+visit+visit_one+visit_two.Lts-visit_two as visit-two-lts
+use Rattle.run.proofs.+add_rule+after_one+after_two+dispatch+sext_rule+sub_rule+visit+visit_one+visit_two.Tie.{close}
+use Rattle.run.proofs.+add_rule+after_one+after_two+dispatch+sext_rule+sub_rule+visit+visit_one+visit_two.{statement}
 use Rattle.run.proofs.add_rule.Kinds as add-rule-kinds
 use Rattle.run.proofs.add_rule.Reads as add-rule
 use Rattle.run.proofs.after_one.Kinds as after-one-kinds
@@ -48,34 +49,39 @@ use Rattle.run.proofs.sub_rule.Kinds as sub-rule-kinds
 use Rattle.run.proofs.sub_rule.Reads as sub-rule
 use Rattle.run.proofs.turn_of.Reads as turn-of-reads
 use Rattle.run.proofs.two_rule.Reads as two-rule-reads
+use Rattle.run.proofs.visit.Kinds as visit-kinds
+use Rattle.run.proofs.visit.Reads as visit
 use Rattle.run.proofs.visit_one.Kinds as visit-one-kinds
 use Rattle.run.proofs.visit_one.Reads as visit-one
 use Rattle.run.proofs.visit_two.Kinds as visit-two-kinds
 use Rattle.run.proofs.visit_two.Reads as visit-two
 
 abbrev μ-add-rule : Measures 1 add-rule-kinds.ps ℕ
-μ-add-rule κs a = 4 * weight (binary Bin.Add (a .1 .1 .1 .0) (treeOf (a .1 .0) (a .0 .now) (a .1 .1 .1 .1 .1 .1 .0)) (treeOf (a .1 .0) (a .0 .now) (a .1 .1 .1 .1 .1 .1 .1 .0)))
+μ-add-rule κs a = 5 * weight (binary Bin.Add (a .1 .1 .1 .0) (treeOf (a .1 .0) (a .0 .now) (a .1 .1 .1 .1 .1 .1 .0)) (treeOf (a .1 .0) (a .0 .now) (a .1 .1 .1 .1 .1 .1 .1 .0)))
 
 abbrev μ-after-one : Measures 1 after-one-kinds.ps ℕ
-μ-after-one κs a = 4 * weight (unary (a .1 .1 .1 .0) (a .1 .1 .1 .1 .0) (treeOf (a .1 .0) (a .0 .now) (a .1 .1 .1 .1 .1 .1 .0))) + 1
+μ-after-one κs a = 5 * weight (unary (a .1 .1 .1 .0) (a .1 .1 .1 .1 .0) (treeOf (a .1 .0) (a .0 .now) (a .1 .1 .1 .1 .1 .1 .0))) + 1
 
 abbrev μ-after-two : Measures 1 after-two-kinds.ps ℕ
-μ-after-two κs a = 4 * weight (binary (a .1 .1 .1 .0) (a .1 .1 .1 .1 .0) (treeOf (a .1 .0) (a .0 .now) (a .1 .1 .1 .1 .1 .1 .1 .0)) (treeOf (a .1 .0) (a .0 .now) (a .1 .1 .1 .1 .1 .1 .1 .1 .0))) + 1
+μ-after-two κs a = 5 * weight (binary (a .1 .1 .1 .0) (a .1 .1 .1 .1 .0) (treeOf (a .1 .0) (a .0 .now) (a .1 .1 .1 .1 .1 .1 .1 .0)) (treeOf (a .1 .0) (a .0 .now) (a .1 .1 .1 .1 .1 .1 .1 .1 .0))) + 1
 
 abbrev μ-dispatch : Measures 1 dispatch-kinds.ps ℕ
-μ-dispatch κs a = 4 * weight (treeOf (a .1 .0) (a .0 .now) (a .1 .1 .0)) + 3
+μ-dispatch κs a = 5 * weight (treeOf (a .1 .0) (a .0 .now) (a .1 .1 .0)) + 4
 
 abbrev μ-sext-rule : Measures 1 sext-rule-kinds.ps ℕ
-μ-sext-rule κs a = 4 * weight (unary Un.SignExtend (a .1 .1 .1 .0) (treeOf (a .1 .0) (a .0 .now) (a .1 .1 .1 .1 .1 .0)))
+μ-sext-rule κs a = 5 * weight (unary Un.SignExtend (a .1 .1 .1 .0) (treeOf (a .1 .0) (a .0 .now) (a .1 .1 .1 .1 .1 .0)))
 
 abbrev μ-sub-rule : Measures 1 sub-rule-kinds.ps ℕ
-μ-sub-rule κs a = 4 * weight (binary Bin.Sub (a .1 .1 .1 .0) (treeOf (a .1 .0) (a .0 .now) (a .1 .1 .1 .1 .1 .1 .0)) (treeOf (a .1 .0) (a .0 .now) (a .1 .1 .1 .1 .1 .1 .1 .0)))
+μ-sub-rule κs a = 5 * weight (binary Bin.Sub (a .1 .1 .1 .0) (treeOf (a .1 .0) (a .0 .now) (a .1 .1 .1 .1 .1 .1 .0)) (treeOf (a .1 .0) (a .0 .now) (a .1 .1 .1 .1 .1 .1 .1 .0)))
+
+abbrev μ-visit : Measures 1 visit-kinds.ps ℕ
+μ-visit κs a = 5 * weight (treeOf (a .1 .0) (a .0 .now) (a .1 .1 .0)) + 3
 
 abbrev μ-visit-one : Measures 1 visit-one-kinds.ps ℕ
-μ-visit-one κs a = 4 * weight (treeOf (a .1 .0) (a .0 .now) (a .1 .1 .0)) + 2
+μ-visit-one κs a = 5 * weight (treeOf (a .1 .0) (a .0 .now) (a .1 .1 .0)) + 2
 
 abbrev μ-visit-two : Measures 1 visit-two-kinds.ps ℕ
-μ-visit-two κs a = 4 * weight (treeOf (a .1 .0) (a .0 .now) (a .1 .1 .0)) + 2
+μ-visit-two κs a = 5 * weight (treeOf (a .1 .0) (a .0 .now) (a .1 .1 .0)) + 2
 
 abbrev add-rule-at : ℕ → In 1 add-rule-kinds.ps
 add-rule-at t = and 1 add-rule-kinds.ps (is 1 add-rule-kinds.ps μ-add-rule t) add-rule.Pre
@@ -119,6 +125,13 @@ abbrev sub-rule-below : ℕ → In 1 sub-rule-kinds.ps
 sub-rule-below t =
     and 1 sub-rule-kinds.ps (falls 1 sub-rule-kinds.ps _<_ μ-sub-rule t) sub-rule.Pre
 
+abbrev visit-at : ℕ → In 1 visit-kinds.ps
+visit-at t = and 1 visit-kinds.ps (is 1 visit-kinds.ps μ-visit t) visit.Pre
+
+abbrev visit-below : ℕ → In 1 visit-kinds.ps
+visit-below t =
+    and 1 visit-kinds.ps (falls 1 visit-kinds.ps _<_ μ-visit t) visit.Pre
+
 abbrev visit-one-at : ℕ → In 1 visit-one-kinds.ps
 visit-one-at t = and 1 visit-one-kinds.ps (is 1 visit-one-kinds.ps μ-visit-one t) visit-one.Pre
 
@@ -134,7 +147,7 @@ visit-two-below t =
     and 1 visit-two-kinds.ps (falls 1 visit-two-kinds.ps _<_ μ-visit-two t) visit-two.Pre
 
 abbrev add-rule-claims : ℕ → add-rule-lts.Claims
-add-rule-claims t = (two-rule-reads.Asked, two-rule-reads.Learnt, dispatch-below t, dispatch.Post)
+add-rule-claims t = (two-rule-reads.Asked, two-rule-reads.Learnt, visit-below t, visit.Post)
 
 abbrev after-one-claims : ℕ → after-one-lts.Claims
 after-one-claims t = (node-at-reads.Asked, node-at-reads.Learnt, is-top-reads.Asked, is-top-reads.Learnt, push-reads.Asked, push-reads.Learnt, sext-rule-below t, sext-rule.Post, plain-one-reads.Asked, plain-one-reads.Learnt)
@@ -143,13 +156,16 @@ abbrev after-two-claims : ℕ → after-two-lts.Claims
 after-two-claims t = (node-at-reads.Asked, node-at-reads.Learnt, is-top-reads.Asked, is-top-reads.Learnt, push-reads.Asked, push-reads.Learnt, turn-of-reads.Asked, turn-of-reads.Learnt, add-rule-below t, add-rule.Post, sub-rule-below t, sub-rule.Post, plain-two-reads.Asked, plain-two-reads.Learnt)
 
 abbrev dispatch-claims : ℕ → dispatch-lts.Claims
-dispatch-claims t = (node-at-reads.Asked, node-at-reads.Learnt, visit-one-below t, visit-one.Post, visit-two-below t, visit-two.Post)
+dispatch-claims t = (visit-below t, visit.Post)
 
 abbrev sext-rule-claims : ℕ → sext-rule-lts.Claims
-sext-rule-claims t = (one-rule-reads.Asked, one-rule-reads.Learnt, dispatch-below t, dispatch.Post)
+sext-rule-claims t = (one-rule-reads.Asked, one-rule-reads.Learnt, visit-below t, visit.Post)
 
 abbrev sub-rule-claims : ℕ → sub-rule-lts.Claims
-sub-rule-claims t = (two-rule-reads.Asked, two-rule-reads.Learnt, dispatch-below t, dispatch.Post)
+sub-rule-claims t = (two-rule-reads.Asked, two-rule-reads.Learnt, visit-below t, visit.Post)
+
+abbrev visit-claims : ℕ → visit-lts.Claims
+visit-claims t = (node-at-reads.Asked, node-at-reads.Learnt, after-one-below t, after-one.Post, visit-one-below t, visit-one.Post, after-two-below t, after-two.Post, visit-two-below t, visit-two.Post)
 
 abbrev visit-one-claims : ℕ → visit-one-lts.Claims
 visit-one-claims t = (dispatch-below t, dispatch.Post, after-one-below t, after-one.Post)
@@ -169,12 +185,12 @@ add-rule-enum-known-root t c = search needs
 add-rule-enum-known-root-2 : (t : ℕ) → add-rule-lts.Need-enum-known-root-2 (add-rule-claims t) (add-rule-at t) add-rule.Post
 add-rule-enum-known-root-2 t c = search needs
 
-add-rule-dispatch-requires : (t : ℕ) → add-rule-lts.Need-dispatch-requires (add-rule-claims t) (add-rule-at t) add-rule.Post
-add-rule-dispatch-requires t c κs =
+add-rule-visit-requires : (t : ℕ) → add-rule-lts.Need-visit-requires (add-rule-claims t) (add-rule-at t) add-rule.Post
+add-rule-visit-requires t c κs =
     let ran = rw ((c .before .before .root2) .given .1) at ((c .before .before .before .before .before .before .two-rule) .ensures) in
     let lighter = two-again-falls ((c .before .before .before .before .before .before .before .before .before .pre) .1 .0) ((c .before .before .before .before .before .before .before .before .before .pre) .1 .1) ((c .before .before .before .before .before .before .two-rule) .last .0) ((c .before .before .root2) .given .0 .0) ((c .before .before .root2) .given .0 .1 .0) ran in
     let own = (c .before .before .before .before .before .before .before .before .before .pre) .0 in
-    (omega arith, (ran .1 .ran .live, ran .1 .ran .root-below))
+    (omega arith, (ran .1 .ran .live, (ran .1 .ran .root-below, two-again-over-normal ((c .before .before .before .before .before .before .before .before .before .pre) .1 .0) ((c .before .before .before .before .before .before .before .before .before .pre) .1 .1) ((c .before .before .before .before .before .before .two-rule) .last .0) ((c .before .before .root2) .given .0 .0) ((c .before .before .root2) .given .0 .1 .0) ran)))
 
 add-rule-same-length : (t : ℕ) → add-rule-lts.Need-same-length (add-rule-claims t) (add-rule-at t) add-rule.Post
 add-rule-same-length t c = search needs
@@ -193,8 +209,8 @@ add-rule-same-length-3 t c = search needs
 
 add-rule-returns-3 : (t : ℕ) → add-rule-lts.Need-returns-3 (add-rule-claims t) (add-rule-at t) add-rule.Post
 add-rule-returns-3 t c =
-    two-again-ended ((c .before .before .before .before .before .before .before .before .before .before .before .before .pre) .1 .0) ((c .before .before .before .before .before .before .before .before .before .before .before .before .pre) .1 .1) ((c .before .before .before .before .before .before .before .before .before .two-rule) .last .0) ((c .before .before .dispatch) .last .0) ((c .before .before .before .before .before .root2) .given .0 .0) ((c .before .before .before .before .before .root2) .given .0 .1 .0) ((c .before .before .dispatch) .result)
-    (rw ((c .before .before .before .before .before .root2) .given .1) at ((c .before .before .before .before .before .before .before .before .before .two-rule) .ensures)) ((c .before .before .dispatch) .ensures)
+    two-again-ended ((c .before .before .before .before .before .before .before .before .before .before .before .before .pre) .1 .0) ((c .before .before .before .before .before .before .before .before .before .before .before .before .pre) .1 .1) ((c .before .before .before .before .before .before .before .before .before .two-rule) .last .0) ((c .before .before .visit) .last .0) ((c .before .before .before .before .before .root2) .given .0 .0) ((c .before .before .before .before .before .root2) .given .0 .1 .0) ((c .before .before .visit) .result)
+    (rw ((c .before .before .before .before .before .root2) .given .1) at ((c .before .before .before .before .before .before .before .before .before .two-rule) .ensures)) ((c .before .before .visit) .ensures)
 
 after-one-node-at-requires : (t : ℕ) → after-one-lts.Need-node-at-requires (after-one-claims t) (after-one-at t) after-one.Post
 after-one-node-at-requires t c κs = node-inside ((c .before .before .pre) .1 .0) ((c .before .before .args) .a) ((c .before .before .pre) .1 .1 .child-below)
@@ -324,72 +340,16 @@ after-two-returns-5 : (t : ℕ) → after-two-lts.Need-returns-5 (after-two-clai
 after-two-returns-5 t c =
     rw (top-read ((c .before .before .before .before .before .before .before .before .before .before .before .before .before .before .before .before .pre) .1 .0) ((c .before .before .before .before .before .before .before .before .before .before .before .before .before .before .before .before .args) .a) ((c .before .before .before .before .before .before .before .before .before .before .before .before .before .before .before .before .pre) .1 .1 .left-below) ((c .before .before .before .before .before .before .before .before .before .before .before .before .before .node-at) .result) ((c .before .before .before .before .before .before .before .before .before .before .before .before .is-top) .result) false ((c .before .before .before .before .before .before .before .before .before .before .before .before .before .node-at) .ensures) ((c .before .before .before .before .before .before .before .before .before .before .before .before .is-top) .ensures) ((c .before .before .before .before .before .before .before .before .before .before .before .if1) .left), top-read ((c .before .before .before .before .before .before .before .before .before .before .before .before .before .before .before .before .pre) .1 .0) ((c .before .before .before .before .before .before .before .before .before .before .before .before .before .before .before .before .args) .b) ((c .before .before .before .before .before .before .before .before .before .before .before .before .before .before .before .before .pre) .1 .1 .right-below) ((c .before .before .before .before .before .before .before .before .before .node-at2) .result) ((c .before .before .before .before .before .before .before .before .is-top2) .result) false ((c .before .before .before .before .before .before .before .before .before .node-at2) .ensures) ((c .before .before .before .before .before .before .before .before .is-top2) .ensures) ((c .before .before .before .before .before .before .before .if2) .left)) ((c .before .before .plain-two) .ensures)
 
-dispatch-node-at-requires : (t : ℕ) → dispatch-lts.Need-node-at-requires (dispatch-claims t) (dispatch-at t) dispatch.Post
-dispatch-node-at-requires t c κs = node-inside ((c .before .before .pre) .1 .0) ((c .before .before .args) .i) ((c .before .before .pre) .1 .1)
-
-dispatch-enum-told : (t : ℕ) → dispatch-lts.Need-enum-told (dispatch-claims t) (dispatch-at t) dispatch.Post
-dispatch-enum-told t c = search needs
-
-dispatch-enum-told-2 : (t : ℕ) → dispatch-lts.Need-enum-told-2 (dispatch-claims t) (dispatch-at t) dispatch.Post
-dispatch-enum-told-2 t c = search needs
-
-dispatch-enum-told-3 : (t : ℕ) → dispatch-lts.Need-enum-told-3 (dispatch-claims t) (dispatch-at t) dispatch.Post
-dispatch-enum-told-3 t c = search needs
-
-dispatch-enum-told-4 : (t : ℕ) → dispatch-lts.Need-enum-told-4 (dispatch-claims t) (dispatch-at t) dispatch.Post
-dispatch-enum-told-4 t c = search needs
-
-dispatch-enum-known-op : (t : ℕ) → dispatch-lts.Need-enum-known-op (dispatch-claims t) (dispatch-at t) dispatch.Post
-dispatch-enum-known-op t c = search needs
-
-dispatch-visit-one-requires : (t : ℕ) → dispatch-lts.Need-visit-one-requires (dispatch-claims t) (dispatch-at t) dispatch.Post
-dispatch-visit-one-requires t c κs =
-    let own = (c .before .before .before .before .before .before .before .pre) .0 in
-    (omega arith, ((c .before .before .before .before .before .before .before .pre) .1 .0, ((c .before .before .before .before .before .before .before .pre) .1 .1, sym ((c .before .before .before .before .node-at) .ensures) ∙ (c .before .before .op) .given .1)))
-
-dispatch-enum-known-op-2 : (t : ℕ) → dispatch-lts.Need-enum-known-op-2 (dispatch-claims t) (dispatch-at t) dispatch.Post
-dispatch-enum-known-op-2 t c = search needs
-
-dispatch-visit-two-requires : (t : ℕ) → dispatch-lts.Need-visit-two-requires (dispatch-claims t) (dispatch-at t) dispatch.Post
-dispatch-visit-two-requires t c κs =
-    let own = (c .before .before .before .before .before .before .before .pre) .0 in
-    (omega arith, ((c .before .before .before .before .before .before .before .pre) .1 .0, ((c .before .before .before .before .before .before .before .pre) .1 .1, sym ((c .before .before .before .before .node-at) .ensures) ∙ (c .before .before .op2) .given .1)))
+dispatch-visit-requires : (t : ℕ) → dispatch-lts.Need-visit-requires (dispatch-claims t) (dispatch-at t) dispatch.Post
+dispatch-visit-requires t c κs =
+    let own = (c .before .before .pre) .0 in
+    (omega arith, ((c .before .before .pre) .1 .0, ((c .before .before .pre) .1 .1, tt)))
 
 dispatch-same-length : (t : ℕ) → dispatch-lts.Need-same-length (dispatch-claims t) (dispatch-at t) dispatch.Post
 dispatch-same-length t c = search needs
 
 dispatch-returns : (t : ℕ) → dispatch-lts.Need-returns (dispatch-claims t) (dispatch-at t) dispatch.Post
-dispatch-returns t c = ended-top ((c .before .before .before .before .before .pre) .1 .0) ((c .before .before .before .before .before .args) .i) ((c .before .before .before .before .before .pre) .1 .1) (sym ((c .before .before .node-at) .ensures) ∙ (c .enum-told) .given .1)
-
-dispatch-same-length-2 : (t : ℕ) → dispatch-lts.Need-same-length-2 (dispatch-claims t) (dispatch-at t) dispatch.Post
-dispatch-same-length-2 t c = search needs
-
-dispatch-returns-2 : (t : ℕ) → dispatch-lts.Need-returns-2 (dispatch-claims t) (dispatch-at t) dispatch.Post
-dispatch-returns-2 t c = ended-entry ((c .before .before .before .before .before .pre) .1 .0) ((c .before .before .before .before .before .args) .i) ((c .before .before .before .before .before .pre) .1 .1) (sym ((c .before .before .node-at) .ensures) ∙ (c .enum-told2) .given .1)
-
-dispatch-same-length-3 : (t : ℕ) → dispatch-lts.Need-same-length-3 (dispatch-claims t) (dispatch-at t) dispatch.Post
-dispatch-same-length-3 t c = search needs
-
-dispatch-returns-3 : (t : ℕ) → dispatch-lts.Need-returns-3 (dispatch-claims t) (dispatch-at t) dispatch.Post
-dispatch-returns-3 t c = ended-const ((c .before .before .before .before .before .pre) .1 .0) ((c .before .before .before .before .before .args) .i) ((c .before .before .before .before .before .pre) .1 .1) (sym ((c .before .before .node-at) .ensures) ∙ (c .enum-told3) .given .1)
-
-dispatch-same-length-4 : (t : ℕ) → dispatch-lts.Need-same-length-4 (dispatch-claims t) (dispatch-at t) dispatch.Post
-dispatch-same-length-4 t c = search needs
-
-dispatch-returns-4 : (t : ℕ) → dispatch-lts.Need-returns-4 (dispatch-claims t) (dispatch-at t) dispatch.Post
-dispatch-returns-4 t c = ended-bind ((c .before .before .before .before .before .pre) .1 .0) ((c .before .before .before .before .before .args) .i) ((c .before .before .before .before .before .pre) .1 .1) (sym ((c .before .before .node-at) .ensures) ∙ (c .enum-told4) .given .1)
-
-dispatch-same-length-5 : (t : ℕ) → dispatch-lts.Need-same-length-5 (dispatch-claims t) (dispatch-at t) dispatch.Post
-dispatch-same-length-5 t c = search needs
-
-dispatch-returns-5 : (t : ℕ) → dispatch-lts.Need-returns-5 (dispatch-claims t) (dispatch-at t) dispatch.Post
-dispatch-returns-5 t c = (c .before .before .visit-one) .ensures
-
-dispatch-same-length-6 : (t : ℕ) → dispatch-lts.Need-same-length-6 (dispatch-claims t) (dispatch-at t) dispatch.Post
-dispatch-same-length-6 t c = search needs
-
-dispatch-returns-6 : (t : ℕ) → dispatch-lts.Need-returns-6 (dispatch-claims t) (dispatch-at t) dispatch.Post
-dispatch-returns-6 t c = (c .before .before .visit-two) .ensures
+dispatch-returns t c = (c .before .before .visit) .ensures
 
 sext-rule-one-rule-requires : (t : ℕ) → sext-rule-lts.Need-one-rule-requires (sext-rule-claims t) (sext-rule-at t) sext-rule.Post
 sext-rule-one-rule-requires t c κs = ((c .before .before .pre) .1 .0, (c .before .before .pre) .1 .1)
@@ -403,12 +363,12 @@ sext-rule-enum-known-root t c = search needs
 sext-rule-enum-known-root-2 : (t : ℕ) → sext-rule-lts.Need-enum-known-root-2 (sext-rule-claims t) (sext-rule-at t) sext-rule.Post
 sext-rule-enum-known-root-2 t c = search needs
 
-sext-rule-dispatch-requires : (t : ℕ) → sext-rule-lts.Need-dispatch-requires (sext-rule-claims t) (sext-rule-at t) sext-rule.Post
-sext-rule-dispatch-requires t c κs =
+sext-rule-visit-requires : (t : ℕ) → sext-rule-lts.Need-visit-requires (sext-rule-claims t) (sext-rule-at t) sext-rule.Post
+sext-rule-visit-requires t c κs =
     let ran = rw ((c .before .before .root2) .given .1) at ((c .before .before .before .before .before .before .one-rule) .ensures) in
     let lighter = one-again-falls ((c .before .before .before .before .before .before .before .before .before .pre) .1 .0) ((c .before .before .before .before .before .before .before .before .before .pre) .1 .1) ((c .before .before .before .before .before .before .one-rule) .last .0) ((c .before .before .root2) .given .0 .0) ((c .before .before .root2) .given .0 .1 .0) ran in
     let own = (c .before .before .before .before .before .before .before .before .before .pre) .0 in
-    (omega arith, (ran .1 .ran .live, ran .1 .ran .root-below))
+    (omega arith, (ran .1 .ran .live, (ran .1 .ran .root-below, one-again-over-normal ((c .before .before .before .before .before .before .before .before .before .pre) .1 .0) ((c .before .before .before .before .before .before .before .before .before .pre) .1 .1) ((c .before .before .before .before .before .before .one-rule) .last .0) ((c .before .before .root2) .given .0 .0) ((c .before .before .root2) .given .0 .1 .0) ran)))
 
 sext-rule-same-length : (t : ℕ) → sext-rule-lts.Need-same-length (sext-rule-claims t) (sext-rule-at t) sext-rule.Post
 sext-rule-same-length t c = search needs
@@ -427,8 +387,8 @@ sext-rule-same-length-3 t c = search needs
 
 sext-rule-returns-3 : (t : ℕ) → sext-rule-lts.Need-returns-3 (sext-rule-claims t) (sext-rule-at t) sext-rule.Post
 sext-rule-returns-3 t c =
-    one-again-ended ((c .before .before .before .before .before .before .before .before .before .before .before .before .pre) .1 .0) ((c .before .before .before .before .before .before .before .before .before .before .before .before .pre) .1 .1) ((c .before .before .before .before .before .before .before .before .before .one-rule) .last .0) ((c .before .before .dispatch) .last .0) ((c .before .before .before .before .before .root2) .given .0 .0) ((c .before .before .before .before .before .root2) .given .0 .1 .0) ((c .before .before .dispatch) .result)
-    (rw ((c .before .before .before .before .before .root2) .given .1) at ((c .before .before .before .before .before .before .before .before .before .one-rule) .ensures)) ((c .before .before .dispatch) .ensures)
+    one-again-ended ((c .before .before .before .before .before .before .before .before .before .before .before .before .pre) .1 .0) ((c .before .before .before .before .before .before .before .before .before .before .before .before .pre) .1 .1) ((c .before .before .before .before .before .before .before .before .before .one-rule) .last .0) ((c .before .before .visit) .last .0) ((c .before .before .before .before .before .root2) .given .0 .0) ((c .before .before .before .before .before .root2) .given .0 .1 .0) ((c .before .before .visit) .result)
+    (rw ((c .before .before .before .before .before .root2) .given .1) at ((c .before .before .before .before .before .before .before .before .before .one-rule) .ensures)) ((c .before .before .visit) .ensures)
 
 sub-rule-two-rule-requires : (t : ℕ) → sub-rule-lts.Need-two-rule-requires (sub-rule-claims t) (sub-rule-at t) sub-rule.Post
 sub-rule-two-rule-requires t c κs = ((c .before .before .pre) .1 .0, (c .before .before .pre) .1 .1)
@@ -442,12 +402,12 @@ sub-rule-enum-known-root t c = search needs
 sub-rule-enum-known-root-2 : (t : ℕ) → sub-rule-lts.Need-enum-known-root-2 (sub-rule-claims t) (sub-rule-at t) sub-rule.Post
 sub-rule-enum-known-root-2 t c = search needs
 
-sub-rule-dispatch-requires : (t : ℕ) → sub-rule-lts.Need-dispatch-requires (sub-rule-claims t) (sub-rule-at t) sub-rule.Post
-sub-rule-dispatch-requires t c κs =
+sub-rule-visit-requires : (t : ℕ) → sub-rule-lts.Need-visit-requires (sub-rule-claims t) (sub-rule-at t) sub-rule.Post
+sub-rule-visit-requires t c κs =
     let ran = rw ((c .before .before .root2) .given .1) at ((c .before .before .before .before .before .before .two-rule) .ensures) in
     let lighter = two-again-falls ((c .before .before .before .before .before .before .before .before .before .pre) .1 .0) ((c .before .before .before .before .before .before .before .before .before .pre) .1 .1) ((c .before .before .before .before .before .before .two-rule) .last .0) ((c .before .before .root2) .given .0 .0) ((c .before .before .root2) .given .0 .1 .0) ran in
     let own = (c .before .before .before .before .before .before .before .before .before .pre) .0 in
-    (omega arith, (ran .1 .ran .live, ran .1 .ran .root-below))
+    (omega arith, (ran .1 .ran .live, (ran .1 .ran .root-below, two-again-over-normal ((c .before .before .before .before .before .before .before .before .before .pre) .1 .0) ((c .before .before .before .before .before .before .before .before .before .pre) .1 .1) ((c .before .before .before .before .before .before .two-rule) .last .0) ((c .before .before .root2) .given .0 .0) ((c .before .before .root2) .given .0 .1 .0) ran)))
 
 sub-rule-same-length : (t : ℕ) → sub-rule-lts.Need-same-length (sub-rule-claims t) (sub-rule-at t) sub-rule.Post
 sub-rule-same-length t c = search needs
@@ -466,8 +426,103 @@ sub-rule-same-length-3 t c = search needs
 
 sub-rule-returns-3 : (t : ℕ) → sub-rule-lts.Need-returns-3 (sub-rule-claims t) (sub-rule-at t) sub-rule.Post
 sub-rule-returns-3 t c =
-    two-again-ended ((c .before .before .before .before .before .before .before .before .before .before .before .before .pre) .1 .0) ((c .before .before .before .before .before .before .before .before .before .before .before .before .pre) .1 .1) ((c .before .before .before .before .before .before .before .before .before .two-rule) .last .0) ((c .before .before .dispatch) .last .0) ((c .before .before .before .before .before .root2) .given .0 .0) ((c .before .before .before .before .before .root2) .given .0 .1 .0) ((c .before .before .dispatch) .result)
-    (rw ((c .before .before .before .before .before .root2) .given .1) at ((c .before .before .before .before .before .before .before .before .before .two-rule) .ensures)) ((c .before .before .dispatch) .ensures)
+    two-again-ended ((c .before .before .before .before .before .before .before .before .before .before .before .before .pre) .1 .0) ((c .before .before .before .before .before .before .before .before .before .before .before .before .pre) .1 .1) ((c .before .before .before .before .before .before .before .before .before .two-rule) .last .0) ((c .before .before .visit) .last .0) ((c .before .before .before .before .before .root2) .given .0 .0) ((c .before .before .before .before .before .root2) .given .0 .1 .0) ((c .before .before .visit) .result)
+    (rw ((c .before .before .before .before .before .root2) .given .1) at ((c .before .before .before .before .before .before .before .before .before .two-rule) .ensures)) ((c .before .before .visit) .ensures)
+
+visit-node-at-requires : (t : ℕ) → visit-lts.Need-node-at-requires (visit-claims t) (visit-at t) visit.Post
+visit-node-at-requires t c κs = node-inside ((c .before .before .pre) .1 .0) ((c .before .before .args) .i) ((c .before .before .pre) .1 .1 .0)
+
+visit-enum-told : (t : ℕ) → visit-lts.Need-enum-told (visit-claims t) (visit-at t) visit.Post
+visit-enum-told t c = search needs
+
+visit-enum-told-2 : (t : ℕ) → visit-lts.Need-enum-told-2 (visit-claims t) (visit-at t) visit.Post
+visit-enum-told-2 t c = search needs
+
+visit-enum-told-3 : (t : ℕ) → visit-lts.Need-enum-told-3 (visit-claims t) (visit-at t) visit.Post
+visit-enum-told-3 t c = search needs
+
+visit-enum-told-4 : (t : ℕ) → visit-lts.Need-enum-told-4 (visit-claims t) (visit-at t) visit.Post
+visit-enum-told-4 t c = search needs
+
+visit-enum-known-op : (t : ℕ) → visit-lts.Need-enum-known-op (visit-claims t) (visit-at t) visit.Post
+visit-enum-known-op t c = search needs
+
+visit-after-one-requires : (t : ℕ) → visit-lts.Need-after-one-requires (visit-claims t) (visit-at t) visit.Post
+visit-after-one-requires t c κs =
+    let own = (c .before .before .before .before .before .before .before .before .pre) .0 in
+    let node = sym ((c .before .before .before .before .before .node-at) .ensures) ∙ (c .before .before .before .op) .given .1 in
+    let same = one-same-weight ((c .before .before .before .before .before .before .before .before .pre) .1 .0) ((c .before .before .before .before .before .before .before .before .args) .i) ((c .before .before .before .before .before .before .before .before .pre) .1 .1 .0) ((c .before .before .before .before .before .before .before .before .args) .ready) ((c .before .if1) .taken) ((c .before .before .before .before .before .before .before .before .pre) .1 .1 .1) ((c .before .before .before .op) .given .0 .0) ((c .before .before .before .op) .given .0 .1 .0) ((c .before .before .before .op) .given .0 .1 .1 .0) node in
+    (omega arith, ((c .before .before .before .before .before .before .before .before .pre) .1 .0, one-prepared ((c .before .before .before .before .before .before .before .before .pre) .1 .0) ((c .before .before .before .before .before .before .before .before .args) .i) ((c .before .before .before .before .before .before .before .before .pre) .1 .1 .0) ((c .before .before .before .before .before .before .before .before .args) .ready) ((c .before .if1) .taken) ((c .before .before .before .before .before .before .before .before .pre) .1 .1 .1) ((c .before .before .before .op) .given .0 .0) ((c .before .before .before .op) .given .0 .1 .0) ((c .before .before .before .op) .given .0 .1 .1 .0) node))
+
+visit-same-length : (t : ℕ) → visit-lts.Need-same-length (visit-claims t) (visit-at t) visit.Post
+visit-same-length t c = search needs
+
+visit-returns : (t : ℕ) → visit-lts.Need-returns (visit-claims t) (visit-at t) visit.Post
+visit-returns t c =
+    one-prepared-ended ((c .before .before .before .before .before .before .before .before .before .before .before .pre) .1 .0) ((c .before .before .before .before .before .before .before .before .before .before .before .args) .i) ((c .before .before .before .before .before .before .before .before .before .before .before .pre) .1 .1 .0) ((c .before .before .before .before .before .before .before .before .before .before .before .args) .ready) ((c .before .before .before .before .if1) .taken) ((c .before .before .before .before .before .before .before .before .before .before .before .pre) .1 .1 .1) ((c .before .before .before .before .before .before .op) .given .0 .0) ((c .before .before .before .before .before .before .op) .given .0 .1 .0) ((c .before .before .before .before .before .before .op) .given .0 .1 .1 .0) (sym ((c .before .before .before .before .before .before .before .before .node-at) .ensures) ∙ (c .before .before .before .before .before .before .op) .given .1) ((c .before .before .after-one) .last .0) ((c .before .before .after-one) .result) ((c .before .before .after-one) .ensures)
+
+visit-visit-one-requires : (t : ℕ) → visit-lts.Need-visit-one-requires (visit-claims t) (visit-at t) visit.Post
+visit-visit-one-requires t c κs =
+    let own = (c .before .before .before .before .before .before .before .before .pre) .0 in
+    (omega arith, ((c .before .before .before .before .before .before .before .before .pre) .1 .0, ((c .before .before .before .before .before .before .before .before .pre) .1 .1 .0, sym ((c .before .before .before .before .before .node-at) .ensures) ∙ (c .before .before .before .op) .given .1)))
+
+visit-enum-known-op-2 : (t : ℕ) → visit-lts.Need-enum-known-op-2 (visit-claims t) (visit-at t) visit.Post
+visit-enum-known-op-2 t c = search needs
+
+visit-after-two-requires : (t : ℕ) → visit-lts.Need-after-two-requires (visit-claims t) (visit-at t) visit.Post
+visit-after-two-requires t c κs =
+    let own = (c .before .before .before .before .before .before .before .before .pre) .0 in
+    let node = sym ((c .before .before .before .before .before .node-at) .ensures) ∙ (c .before .before .before .op2) .given .1 in
+    let same = two-same-weight ((c .before .before .before .before .before .before .before .before .pre) .1 .0) ((c .before .before .before .before .before .before .before .before .args) .i) ((c .before .before .before .before .before .before .before .before .pre) .1 .1 .0) ((c .before .before .before .before .before .before .before .before .args) .ready) ((c .before .if2) .taken) ((c .before .before .before .before .before .before .before .before .pre) .1 .1 .1) ((c .before .before .before .op2) .given .0 .0) ((c .before .before .before .op2) .given .0 .1 .0) ((c .before .before .before .op2) .given .0 .1 .1 .0) ((c .before .before .before .op2) .given .0 .1 .1 .1 .0) node in
+    (omega arith, ((c .before .before .before .before .before .before .before .before .pre) .1 .0, two-prepared ((c .before .before .before .before .before .before .before .before .pre) .1 .0) ((c .before .before .before .before .before .before .before .before .args) .i) ((c .before .before .before .before .before .before .before .before .pre) .1 .1 .0) ((c .before .before .before .before .before .before .before .before .args) .ready) ((c .before .if2) .taken) ((c .before .before .before .before .before .before .before .before .pre) .1 .1 .1) ((c .before .before .before .op2) .given .0 .0) ((c .before .before .before .op2) .given .0 .1 .0) ((c .before .before .before .op2) .given .0 .1 .1 .0) ((c .before .before .before .op2) .given .0 .1 .1 .1 .0) node))
+
+visit-same-length-2 : (t : ℕ) → visit-lts.Need-same-length-2 (visit-claims t) (visit-at t) visit.Post
+visit-same-length-2 t c = search needs
+
+visit-returns-2 : (t : ℕ) → visit-lts.Need-returns-2 (visit-claims t) (visit-at t) visit.Post
+visit-returns-2 t c =
+    two-prepared-ended ((c .before .before .before .before .before .before .before .before .before .before .before .pre) .1 .0) ((c .before .before .before .before .before .before .before .before .before .before .before .args) .i) ((c .before .before .before .before .before .before .before .before .before .before .before .pre) .1 .1 .0) ((c .before .before .before .before .before .before .before .before .before .before .before .args) .ready) ((c .before .before .before .before .if2) .taken) ((c .before .before .before .before .before .before .before .before .before .before .before .pre) .1 .1 .1) ((c .before .before .before .before .before .before .op2) .given .0 .0) ((c .before .before .before .before .before .before .op2) .given .0 .1 .0) ((c .before .before .before .before .before .before .op2) .given .0 .1 .1 .0) ((c .before .before .before .before .before .before .op2) .given .0 .1 .1 .1 .0) (sym ((c .before .before .before .before .before .before .before .before .node-at) .ensures) ∙ (c .before .before .before .before .before .before .op2) .given .1) ((c .before .before .after-two) .last .0) ((c .before .before .after-two) .result) ((c .before .before .after-two) .ensures)
+
+visit-visit-two-requires : (t : ℕ) → visit-lts.Need-visit-two-requires (visit-claims t) (visit-at t) visit.Post
+visit-visit-two-requires t c κs =
+    let own = (c .before .before .before .before .before .before .before .before .pre) .0 in
+    (omega arith, ((c .before .before .before .before .before .before .before .before .pre) .1 .0, ((c .before .before .before .before .before .before .before .before .pre) .1 .1 .0, sym ((c .before .before .before .before .before .node-at) .ensures) ∙ (c .before .before .before .op2) .given .1)))
+
+visit-same-length-3 : (t : ℕ) → visit-lts.Need-same-length-3 (visit-claims t) (visit-at t) visit.Post
+visit-same-length-3 t c = search needs
+
+visit-returns-3 : (t : ℕ) → visit-lts.Need-returns-3 (visit-claims t) (visit-at t) visit.Post
+visit-returns-3 t c = ended-top ((c .before .before .before .before .before .pre) .1 .0) ((c .before .before .before .before .before .args) .i) ((c .before .before .before .before .before .pre) .1 .1 .0) (sym ((c .before .before .node-at) .ensures) ∙ (c .enum-told) .given .1)
+
+visit-same-length-4 : (t : ℕ) → visit-lts.Need-same-length-4 (visit-claims t) (visit-at t) visit.Post
+visit-same-length-4 t c = search needs
+
+visit-returns-4 : (t : ℕ) → visit-lts.Need-returns-4 (visit-claims t) (visit-at t) visit.Post
+visit-returns-4 t c = ended-entry ((c .before .before .before .before .before .pre) .1 .0) ((c .before .before .before .before .before .args) .i) ((c .before .before .before .before .before .pre) .1 .1 .0) (sym ((c .before .before .node-at) .ensures) ∙ (c .enum-told2) .given .1)
+
+visit-same-length-5 : (t : ℕ) → visit-lts.Need-same-length-5 (visit-claims t) (visit-at t) visit.Post
+visit-same-length-5 t c = search needs
+
+visit-returns-5 : (t : ℕ) → visit-lts.Need-returns-5 (visit-claims t) (visit-at t) visit.Post
+visit-returns-5 t c = ended-const ((c .before .before .before .before .before .pre) .1 .0) ((c .before .before .before .before .before .args) .i) ((c .before .before .before .before .before .pre) .1 .1 .0) (sym ((c .before .before .node-at) .ensures) ∙ (c .enum-told3) .given .1)
+
+visit-same-length-6 : (t : ℕ) → visit-lts.Need-same-length-6 (visit-claims t) (visit-at t) visit.Post
+visit-same-length-6 t c = search needs
+
+visit-returns-6 : (t : ℕ) → visit-lts.Need-returns-6 (visit-claims t) (visit-at t) visit.Post
+visit-returns-6 t c = ended-bind ((c .before .before .before .before .before .pre) .1 .0) ((c .before .before .before .before .before .args) .i) ((c .before .before .before .before .before .pre) .1 .1 .0) (sym ((c .before .before .node-at) .ensures) ∙ (c .enum-told4) .given .1)
+
+visit-same-length-7 : (t : ℕ) → visit-lts.Need-same-length-7 (visit-claims t) (visit-at t) visit.Post
+visit-same-length-7 t c = search needs
+
+visit-returns-7 : (t : ℕ) → visit-lts.Need-returns-7 (visit-claims t) (visit-at t) visit.Post
+visit-returns-7 t c = (c .before .before .visit-one) .ensures
+
+visit-same-length-8 : (t : ℕ) → visit-lts.Need-same-length-8 (visit-claims t) (visit-at t) visit.Post
+visit-same-length-8 t c = search needs
+
+visit-returns-8 : (t : ℕ) → visit-lts.Need-returns-8 (visit-claims t) (visit-at t) visit.Post
+visit-returns-8 t c = (c .before .before .visit-two) .ensures
 
 visit-one-dispatch-requires : (t : ℕ) → visit-one-lts.Need-dispatch-requires (visit-one-claims t) (visit-one-at t) visit-one.Post
 visit-one-dispatch-requires t c κs =
@@ -553,9 +608,9 @@ visit-two-returns-3 t c =
     binary-ended ((c .before .before .before .before .before .before .before .before .before .before .before .before .before .before .before .before .before .before .before .pre) .1 .0) ((c .before .before .before .before .before .before .before .before .before .before .before .before .before .before .before .before .before .before .before .args) .i) ((c .before .before .before .before .before .before .before .before .before .before .before .before .before .before .before .before .before .before .before .pre) .1 .1 .0) ((c .before .before .before .before .before .before .before .before .before .before .before .before .before .before .before .before .before .before .before .args) .op) ((c .before .before .before .before .before .before .before .before .before .before .before .before .before .before .before .before .before .before .before .args) .size) ((c .before .before .before .before .before .before .before .before .before .before .before .before .before .before .before .before .before .before .before .args) .j) ((c .before .before .before .before .before .before .before .before .before .before .before .before .before .before .before .before .before .before .before .args) .k) ((c .before .before .before .before .before .before .before .before .before .before .before .before .before .before .before .before .before .before .before .pre) .1 .1 .1) ((c .before .before .before .before .before .before .before .before .before .before .before .before .before .before .before .before .dispatch) .last .0) ((c .before .before .before .before .before .before .before .before .before .before .before .before .a) .given .0 .0) ((c .before .before .before .before .before .before .before .before .before .before .before .before .a) .given .0 .1 .0) (rw ((c .before .before .before .before .before .before .before .before .before .before .before .before .a) .given .1) at ((c .before .before .before .before .before .before .before .before .before .before .before .before .before .before .before .before .dispatch) .ensures)) ((c .before .before .before .before .before .before .before .before .before .dispatch2) .last .0) ((c .before .before .before .before .before .b) .given .0 .0) ((c .before .before .before .before .before .b) .given .0 .1 .0) (rw ((c .before .before .before .before .before .b) .given .1) at ((c .before .before .before .before .before .before .before .before .before .dispatch2) .ensures)) ((c .before .before .after-two) .last .0) ((c .before .before .after-two) .result)
     (isTop (treeOf ((c .before .before .before .before .before .b) .given .0 .1 .0) ((c .before .before .before .before .before .before .before .before .before .dispatch2) .last .0) ((c .before .before .before .before .before .before .before .before .before .before .before .before .a) .given .0 .0)) || isTop (treeOf ((c .before .before .before .before .before .b) .given .0 .1 .0) ((c .before .before .before .before .before .before .before .before .before .dispatch2) .last .0) ((c .before .before .before .before .before .b) .given .0 .0))) refl ((c .before .before .after-two) .ensures)
 
-pub +add-rule+after-one+after-two+dispatch+sext-rule+sub-rule+visit-one+visit-two-spec :
+pub +add-rule+after-one+after-two+dispatch+sext-rule+sub-rule+visit+visit-one+visit-two-spec :
     {M : Type 1} → statement M
-+add-rule+after-one+after-two+dispatch+sext-rule+sub-rule+visit-one+visit-two-spec =
++add-rule+after-one+after-two+dispatch+sext-rule+sub-rule+visit+visit-one+visit-two-spec =
     close
     μ-add-rule
     μ-after-one
@@ -563,13 +618,14 @@ pub +add-rule+after-one+after-two+dispatch+sext-rule+sub-rule+visit-one+visit-tw
     μ-dispatch
     μ-sext-rule
     μ-sub-rule
+    μ-visit
     μ-visit-one
     μ-visit-two
     (λ t. add-rule-lts.spec (
       two-rule-reads.Asked,
       two-rule-reads.Learnt,
-      dispatch-below t,
-      dispatch.Post,
+      visit-below t,
+      visit.Post,
     )
     (add-rule-at t)
     add-rule.Post
@@ -577,7 +633,7 @@ pub +add-rule+after-one+after-two+dispatch+sext-rule+sub-rule+visit-one+visit-tw
     (add-rule-enum-told t)
     (add-rule-enum-known-root t)
     (add-rule-enum-known-root-2 t)
-    (add-rule-dispatch-requires t)
+    (add-rule-visit-requires t)
     (add-rule-same-length t)
     (add-rule-returns t)
     (add-rule-same-length-2 t)
@@ -652,42 +708,18 @@ pub +add-rule+after-one+after-two+dispatch+sext-rule+sub-rule+visit-one+visit-tw
     (after-two-returns-4 t)
     (after-two-same-length-5 t)
     (after-two-returns-5 t))
-    (λ t. dispatch-lts.spec (
-      node-at-reads.Asked,
-      node-at-reads.Learnt,
-      visit-one-below t,
-      visit-one.Post,
-      visit-two-below t,
-      visit-two.Post,
-    )
+    (λ t. dispatch-lts.spec
+    (visit-below t, visit.Post)
     (dispatch-at t)
     dispatch.Post
-    (dispatch-node-at-requires t)
-    (dispatch-enum-told t)
-    (dispatch-enum-told-2 t)
-    (dispatch-enum-told-3 t)
-    (dispatch-enum-told-4 t)
-    (dispatch-enum-known-op t)
-    (dispatch-visit-one-requires t)
-    (dispatch-enum-known-op-2 t)
-    (dispatch-visit-two-requires t)
+    (dispatch-visit-requires t)
     (dispatch-same-length t)
-    (dispatch-returns t)
-    (dispatch-same-length-2 t)
-    (dispatch-returns-2 t)
-    (dispatch-same-length-3 t)
-    (dispatch-returns-3 t)
-    (dispatch-same-length-4 t)
-    (dispatch-returns-4 t)
-    (dispatch-same-length-5 t)
-    (dispatch-returns-5 t)
-    (dispatch-same-length-6 t)
-    (dispatch-returns-6 t))
+    (dispatch-returns t))
     (λ t. sext-rule-lts.spec (
       one-rule-reads.Asked,
       one-rule-reads.Learnt,
-      dispatch-below t,
-      dispatch.Post,
+      visit-below t,
+      visit.Post,
     )
     (sext-rule-at t)
     sext-rule.Post
@@ -695,7 +727,7 @@ pub +add-rule+after-one+after-two+dispatch+sext-rule+sub-rule+visit-one+visit-tw
     (sext-rule-enum-told t)
     (sext-rule-enum-known-root t)
     (sext-rule-enum-known-root-2 t)
-    (sext-rule-dispatch-requires t)
+    (sext-rule-visit-requires t)
     (sext-rule-same-length t)
     (sext-rule-returns t)
     (sext-rule-same-length-2 t)
@@ -705,8 +737,8 @@ pub +add-rule+after-one+after-two+dispatch+sext-rule+sub-rule+visit-one+visit-tw
     (λ t. sub-rule-lts.spec (
       two-rule-reads.Asked,
       two-rule-reads.Learnt,
-      dispatch-below t,
-      dispatch.Post,
+      visit-below t,
+      visit.Post,
     )
     (sub-rule-at t)
     sub-rule.Post
@@ -714,13 +746,44 @@ pub +add-rule+after-one+after-two+dispatch+sext-rule+sub-rule+visit-one+visit-tw
     (sub-rule-enum-told t)
     (sub-rule-enum-known-root t)
     (sub-rule-enum-known-root-2 t)
-    (sub-rule-dispatch-requires t)
+    (sub-rule-visit-requires t)
     (sub-rule-same-length t)
     (sub-rule-returns t)
     (sub-rule-same-length-2 t)
     (sub-rule-returns-2 t)
     (sub-rule-same-length-3 t)
     (sub-rule-returns-3 t))
+    (λ t. visit-lts.spec
+    (visit-claims t)
+    (visit-at t)
+    visit.Post
+    (visit-node-at-requires t)
+    (visit-enum-told t)
+    (visit-enum-told-2 t)
+    (visit-enum-told-3 t)
+    (visit-enum-told-4 t)
+    (visit-enum-known-op t)
+    (visit-after-one-requires t)
+    (visit-same-length t)
+    (visit-returns t)
+    (visit-visit-one-requires t)
+    (visit-enum-known-op-2 t)
+    (visit-after-two-requires t)
+    (visit-same-length-2 t)
+    (visit-returns-2 t)
+    (visit-visit-two-requires t)
+    (visit-same-length-3 t)
+    (visit-returns-3 t)
+    (visit-same-length-4 t)
+    (visit-returns-4 t)
+    (visit-same-length-5 t)
+    (visit-returns-5 t)
+    (visit-same-length-6 t)
+    (visit-returns-6 t)
+    (visit-same-length-7 t)
+    (visit-returns-7 t)
+    (visit-same-length-8 t)
+    (visit-returns-8 t))
     (λ t. visit-one-lts.spec
     (dispatch-below t, dispatch.Post, after-one-below t, after-one.Post)
     (visit-one-at t)
