@@ -7,6 +7,7 @@ mod damage;
 mod exhaustive;
 mod options;
 mod oracle;
+mod paper;
 mod rng;
 mod rows;
 mod shrink;
@@ -17,6 +18,7 @@ pub use case::{Case, case};
 pub use exhaustive::exhaustive;
 pub use options::Options;
 pub use oracle::{Met, Oracle, Outcome, difference, promise_broken};
+pub use paper::{Example, paper};
 pub use rng::Rng;
 pub use shrink::shrink;
 

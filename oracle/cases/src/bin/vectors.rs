@@ -1,14 +1,15 @@
-//! Records a sample of the oracle's answers for the repository's own replay: files of the program,
-//! each after its length in two bytes, most significant first, and the lines that the program prints.
+//! Records what the repository's own replay is held to: files of the program, each after its length
+//! in two bytes, most significant first, and the lines that the program prints. First 01's examples
+//! with 01's lines, then a sample of random cases with the oracle's.
 
-use cases::{Case, Options, Oracle, Rng, SEED, case};
+use cases::{Case, Example, Options, Oracle, Rng, SEED, case, paper};
 use reference::words::{KINDS, NODE_WORDS, node_at};
 use reference::{Model, RULES, Rule, Simplifier, Tally, number, program, reachable};
 use std::collections::HashSet;
 use std::path::Path;
 
 const USAGE: &str = "vectors --out CRATE [--records N] [--bytes B] [--seed S]
-  writes CRATE/data/vectors and CRATE/stdout: N records in at most B bytes";
+  writes CRATE/data/vectors and CRATE/stdout: 01's examples, and N records in at most B bytes";
 
 /// The answers that the program can give: its count is never above its capacity, and it evaluates
 /// nothing.
@@ -40,11 +41,14 @@ fn main() {
         eprintln!("no value.rs: there is nothing to record");
         std::process::exit(1);
     }
-    let records = options.number("records", 1000) as usize;
-    let bytes = options.number("bytes", 1 << 17) as usize;
     let seed = options.number("seed", SEED);
 
     let mut sample = Sample::default();
+    for example in paper() {
+        sample.example(&example);
+    }
+    let records = sample.lines.len() + options.number("records", 1000) as usize;
+    let bytes = sample.vectors.len() + options.number("bytes", 1 << 17) as usize;
     for index in 0..CASES {
         // The longer the search, the longer a file that is taken.
         sample.offer(&file(seed, index), |sample, shows, len| {
@@ -59,6 +63,9 @@ fn main() {
         });
     }
     let missed = sample.missed();
+    for (group, last) in &sample.groups {
+        println!("{group}: up to line {last}");
+    }
     println!("{} records, {} bytes; not recorded: {missed:?}", sample.lines.len(), sample.vectors.len());
     let write = |name: &str, content: &[u8]| {
         let path = Path::new(out).join(name);
@@ -123,9 +130,28 @@ struct Sample {
     lines: Vec<String>,
     files: HashSet<Vec<u8>>,
     shows: Vec<Shows>,
+    /// 01's groups, each with its last line.
+    groups: Vec<(&'static str, usize)>,
 }
 
 impl Sample {
+    /// Takes in an example of 01. The oracle must agree with its line.
+    fn example(&mut self, example: &Example) {
+        let line = program::line(program::run(&Oracle, &example.file).0);
+        if line != example.line {
+            eprintln!(
+                "{}: 01 says {}, the oracle {line}: {:02x?}",
+                example.group, example.line, example.file
+            );
+            std::process::exit(1);
+        }
+        self.offer(&example.file, |_, _, _| true);
+        match self.groups.last_mut() {
+            Some((group, last)) if *group == example.group => *last = self.lines.len(),
+            _ => self.groups.push((example.group, self.lines.len())),
+        }
+    }
+
     /// Takes a file in that it does not have and wants, by what the file shows and its length.
     fn offer(&mut self, file: &[u8], wants: impl Fn(&Sample, &Shows, usize) -> bool) {
         let (answer, _) = program::run(&Oracle, file);
@@ -158,8 +184,9 @@ impl Sample {
 
     /// Whether a record may fill the sample up: a run in which a rule ended, or one of the refusals.
     fn may_have(&self, shows: &Shows) -> bool {
-        let refusals = self.lines.len() - self.with_answer(number::DONE);
-        !shows.endings.is_empty() || shows.answer != number::DONE && refusals < self.lines.len() / REFUSALS
+        let sampled = &self.shows[self.groups.last().map_or(0, |&(_, last)| last)..];
+        let refusals = sampled.iter().filter(|shows| shows.answer != number::DONE).count();
+        !shows.endings.is_empty() || shows.answer != number::DONE && refusals < sampled.len() / REFUSALS
     }
 
     /// What the sample does not have at all.
