@@ -43,11 +43,11 @@ static double now(void) {
     return t.tv_sec * 1e9 + t.tv_nsec;
 }
 
-/* The best of seven rounds, in nanoseconds a call. */
+/* The best of many rounds, in nanoseconds a call. */
 static double timed(int evaluate, uint64_t count, uint64_t root) {
     double best = 1e18;
-    for (int round = 0; round < 7; round++) {
-        int calls = 2000;
+    for (int round = 0; round < 60; round++) {
+        int calls = 1 + 100000 / (int)count;
         double start = now();
         for (int i = 0; i < calls; i++)
             if (evaluate)
