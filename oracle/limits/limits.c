@@ -31,9 +31,9 @@ static uint64_t stack(uint64_t high, int kind, int shared) {
 static const uint64_t rows[3] = {(uint64_t)1 << 56 | (uint64_t)8 << 48 | 3, 16, 5};
 
 static void show(const char *name, uint64_t count) {
-    struct santofunye_check_reply c = santofunye_check(words, 2 * CAPACITY, count, count - 1);
-    struct santofunye_evaluate_reply e = santofunye_evaluate(words, 2 * CAPACITY, count, count - 1, rows, 3);
-    struct santofunye_simplify_reply s = santofunye_simplify(words, 2 * CAPACITY, count, count - 1);
+    santofunye_check_reply c = santofunye_check(words, 2 * CAPACITY, count, count - 1);
+    santofunye_evaluate_reply e = santofunye_evaluate(words, 2 * CAPACITY, count, count - 1, rows, 3);
+    santofunye_simplify_reply s = santofunye_simplify(words, 2 * CAPACITY, count, count - 1);
     printf("%-28s check %lu, simplify %lu, evaluate %lu\n", name, (unsigned long)c.number, (unsigned long)s.number, (unsigned long)e.number);
 }
 

@@ -75,7 +75,6 @@ fn plain(kind: u64) -> Node {
         CONST => Node::constant(1, 0),
         BIND => y(1),
         SIGN_EXTEND => Node::op(kind, 2, 1, 0),
-        INT_2COMP => Node::op(kind, 1, 1, 0),
         _ => Node::op(kind, 1, 1, 0),
     }
 }
