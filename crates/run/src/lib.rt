@@ -117,6 +117,16 @@ fn settle(
     }
 }
 
+// The same step, made anew. An enum is handed on with its unused bytes, and to copy those costs more than a visit's own work.
+fn anew(step: Step) -> Step
+    ensures { λ r. ⌜ r ≡ step ⌝ }
+{
+    match step {
+        Step::Done(root, n) => Step::Done(root, n),
+        Step::NoRoom => Step::NoRoom,
+    }
+}
+
 fn outcome_of(again: bool, step: Step) -> Outcome
     ensures { λ r. ⌜ r ≡ outcomeOf again step ⌝ }
 {
@@ -231,7 +241,7 @@ fn add_rule(
     match two_rule(words, count, i, Bin::Add, size, j, k, a, b) {
         Outcome::NoRoom => Step::NoRoom,
         Outcome::Done(root, n) => Step::Done(root, n),
-        Outcome::Again(root, n) => visit(words, n, root, true),
+        Outcome::Again(root, n) => anew(visit(words, n, root, true)),
     }
 }
 
@@ -252,7 +262,7 @@ fn sub_rule(
     match two_rule(words, count, i, Bin::Sub, size, j, k, a, b) {
         Outcome::NoRoom => Step::NoRoom,
         Outcome::Done(root, n) => Step::Done(root, n),
-        Outcome::Again(root, n) => visit(words, n, root, true),
+        Outcome::Again(root, n) => anew(visit(words, n, root, true)),
     }
 }
 
@@ -264,7 +274,7 @@ fn sext_rule(words: &mut [u64], count: usize, i: usize, size: u64, j: usize, a: 
     match one_rule(words, count, i, Un::SignExtend, size, j, a) {
         Outcome::NoRoom => Step::NoRoom,
         Outcome::Done(root, n) => Step::Done(root, n),
-        Outcome::Again(root, n) => visit(words, n, root, true),
+        Outcome::Again(root, n) => anew(visit(words, n, root, true)),
     }
 }
 
@@ -368,15 +378,15 @@ fn visit(words: &mut [u64], count: usize, i: usize, ready: bool) -> Step
         Node::Bind(_, _) => Step::Done(i, count),
         Node::Unary(op, size, j) => {
             if ready {
-                return after_one(words, count, i, op, size, j, j);
+                return anew(after_one(words, count, i, op, size, j, j));
             }
-            visit_one(words, count, i, op, size, j)
+            anew(visit_one(words, count, i, op, size, j))
         }
         Node::Binary(op, size, j, k) => {
             if ready {
-                return after_two(words, count, i, op, size, j, k, j, k);
+                return anew(after_two(words, count, i, op, size, j, k, j, k));
             }
-            visit_two(words, count, i, op, size, j, k)
+            anew(visit_two(words, count, i, op, size, j, k))
         }
     }
 }

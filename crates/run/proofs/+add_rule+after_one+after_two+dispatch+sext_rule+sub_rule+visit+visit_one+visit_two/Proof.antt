@@ -38,6 +38,7 @@ use Rattle.run.proofs.after_one.Kinds as after-one-kinds
 use Rattle.run.proofs.after_one.Reads as after-one
 use Rattle.run.proofs.after_two.Kinds as after-two-kinds
 use Rattle.run.proofs.after_two.Reads as after-two
+use Rattle.run.proofs.anew.Reads as anew-reads
 use Rattle.run.proofs.dispatch.Kinds as dispatch-kinds
 use Rattle.run.proofs.dispatch.Reads as dispatch
 use Rattle.run.proofs.one_rule.Reads as one-rule-reads
@@ -147,7 +148,7 @@ visit-two-below t =
     and 1 visit-two-kinds.ps (falls 1 visit-two-kinds.ps _<_ μ-visit-two t) visit-two.Pre
 
 abbrev add-rule-claims : ℕ → add-rule-lts.Claims
-add-rule-claims t = (two-rule-reads.Asked, two-rule-reads.Learnt, visit-below t, visit.Post)
+add-rule-claims t = (two-rule-reads.Asked, two-rule-reads.Learnt, visit-below t, visit.Post, anew-reads.Asked, anew-reads.Learnt)
 
 abbrev after-one-claims : ℕ → after-one-lts.Claims
 after-one-claims t = (node-at-reads.Asked, node-at-reads.Learnt, is-top-reads.Asked, is-top-reads.Learnt, push-reads.Asked, push-reads.Learnt, sext-rule-below t, sext-rule.Post, plain-one-reads.Asked, plain-one-reads.Learnt)
@@ -159,13 +160,13 @@ abbrev dispatch-claims : ℕ → dispatch-lts.Claims
 dispatch-claims t = (visit-below t, visit.Post)
 
 abbrev sext-rule-claims : ℕ → sext-rule-lts.Claims
-sext-rule-claims t = (one-rule-reads.Asked, one-rule-reads.Learnt, visit-below t, visit.Post)
+sext-rule-claims t = (one-rule-reads.Asked, one-rule-reads.Learnt, visit-below t, visit.Post, anew-reads.Asked, anew-reads.Learnt)
 
 abbrev sub-rule-claims : ℕ → sub-rule-lts.Claims
-sub-rule-claims t = (two-rule-reads.Asked, two-rule-reads.Learnt, visit-below t, visit.Post)
+sub-rule-claims t = (two-rule-reads.Asked, two-rule-reads.Learnt, visit-below t, visit.Post, anew-reads.Asked, anew-reads.Learnt)
 
 abbrev visit-claims : ℕ → visit-lts.Claims
-visit-claims t = (node-at-reads.Asked, node-at-reads.Learnt, after-one-below t, after-one.Post, visit-one-below t, visit-one.Post, after-two-below t, after-two.Post, visit-two-below t, visit-two.Post)
+visit-claims t = (node-at-reads.Asked, node-at-reads.Learnt, after-one-below t, after-one.Post, anew-reads.Asked, anew-reads.Learnt, visit-one-below t, visit-one.Post, after-two-below t, after-two.Post, visit-two-below t, visit-two.Post)
 
 abbrev visit-one-claims : ℕ → visit-one-lts.Claims
 visit-one-claims t = (dispatch-below t, dispatch.Post, after-one-below t, after-one.Post)
@@ -192,6 +193,9 @@ add-rule-visit-requires t c κs =
     let own = (c .before .before .before .before .before .before .before .before .before .pre) .0 in
     (omega arith, (ran .1 .ran .live, (ran .1 .ran .root-below, two-again-over-normal ((c .before .before .before .before .before .before .before .before .before .pre) .1 .0) ((c .before .before .before .before .before .before .before .before .before .pre) .1 .1) ((c .before .before .before .before .before .before .two-rule) .last .0) ((c .before .before .root2) .given .0 .0) ((c .before .before .root2) .given .0 .1 .0) ran)))
 
+add-rule-anew-requires : (t : ℕ) → add-rule-lts.Need-anew-requires (add-rule-claims t) (add-rule-at t) add-rule.Post
+add-rule-anew-requires t c κs = search needs
+
 add-rule-same-length : (t : ℕ) → add-rule-lts.Need-same-length (add-rule-claims t) (add-rule-at t) add-rule.Post
 add-rule-same-length t c = search needs
 
@@ -209,8 +213,9 @@ add-rule-same-length-3 t c = search needs
 
 add-rule-returns-3 : (t : ℕ) → add-rule-lts.Need-returns-3 (add-rule-claims t) (add-rule-at t) add-rule.Post
 add-rule-returns-3 t c =
-    two-again-ended ((c .before .before .before .before .before .before .before .before .before .before .before .before .pre) .1 .0) ((c .before .before .before .before .before .before .before .before .before .before .before .before .pre) .1 .1) ((c .before .before .before .before .before .before .before .before .before .two-rule) .last .0) ((c .before .before .visit) .last .0) ((c .before .before .before .before .before .root2) .given .0 .0) ((c .before .before .before .before .before .root2) .given .0 .1 .0) ((c .before .before .visit) .result)
-    (rw ((c .before .before .before .before .before .root2) .given .1) at ((c .before .before .before .before .before .before .before .before .before .two-rule) .ensures)) ((c .before .before .visit) .ensures)
+    rw ((c .anew) .ensures)
+    (two-again-ended ((c .before .before .before .before .before .before .before .before .before .before .before .before .before .pre) .1 .0) ((c .before .before .before .before .before .before .before .before .before .before .before .before .before .pre) .1 .1) ((c .before .before .before .before .before .before .before .before .before .before .two-rule) .last .0) ((c .before .before .before .visit) .last .0) ((c .before .before .before .before .before .before .root2) .given .0 .0) ((c .before .before .before .before .before .before .root2) .given .0 .1 .0) ((c .before .before .before .visit) .result)
+    (rw ((c .before .before .before .before .before .before .root2) .given .1) at ((c .before .before .before .before .before .before .before .before .before .before .two-rule) .ensures)) ((c .before .before .before .visit) .ensures))
 
 after-one-node-at-requires : (t : ℕ) → after-one-lts.Need-node-at-requires (after-one-claims t) (after-one-at t) after-one.Post
 after-one-node-at-requires t c κs = node-inside ((c .before .before .pre) .1 .0) ((c .before .before .args) .a) ((c .before .before .pre) .1 .1 .child-below)
@@ -370,6 +375,9 @@ sext-rule-visit-requires t c κs =
     let own = (c .before .before .before .before .before .before .before .before .before .pre) .0 in
     (omega arith, (ran .1 .ran .live, (ran .1 .ran .root-below, one-again-over-normal ((c .before .before .before .before .before .before .before .before .before .pre) .1 .0) ((c .before .before .before .before .before .before .before .before .before .pre) .1 .1) ((c .before .before .before .before .before .before .one-rule) .last .0) ((c .before .before .root2) .given .0 .0) ((c .before .before .root2) .given .0 .1 .0) ran)))
 
+sext-rule-anew-requires : (t : ℕ) → sext-rule-lts.Need-anew-requires (sext-rule-claims t) (sext-rule-at t) sext-rule.Post
+sext-rule-anew-requires t c κs = search needs
+
 sext-rule-same-length : (t : ℕ) → sext-rule-lts.Need-same-length (sext-rule-claims t) (sext-rule-at t) sext-rule.Post
 sext-rule-same-length t c = search needs
 
@@ -387,8 +395,9 @@ sext-rule-same-length-3 t c = search needs
 
 sext-rule-returns-3 : (t : ℕ) → sext-rule-lts.Need-returns-3 (sext-rule-claims t) (sext-rule-at t) sext-rule.Post
 sext-rule-returns-3 t c =
-    one-again-ended ((c .before .before .before .before .before .before .before .before .before .before .before .before .pre) .1 .0) ((c .before .before .before .before .before .before .before .before .before .before .before .before .pre) .1 .1) ((c .before .before .before .before .before .before .before .before .before .one-rule) .last .0) ((c .before .before .visit) .last .0) ((c .before .before .before .before .before .root2) .given .0 .0) ((c .before .before .before .before .before .root2) .given .0 .1 .0) ((c .before .before .visit) .result)
-    (rw ((c .before .before .before .before .before .root2) .given .1) at ((c .before .before .before .before .before .before .before .before .before .one-rule) .ensures)) ((c .before .before .visit) .ensures)
+    rw ((c .anew) .ensures)
+    (one-again-ended ((c .before .before .before .before .before .before .before .before .before .before .before .before .before .pre) .1 .0) ((c .before .before .before .before .before .before .before .before .before .before .before .before .before .pre) .1 .1) ((c .before .before .before .before .before .before .before .before .before .before .one-rule) .last .0) ((c .before .before .before .visit) .last .0) ((c .before .before .before .before .before .before .root2) .given .0 .0) ((c .before .before .before .before .before .before .root2) .given .0 .1 .0) ((c .before .before .before .visit) .result)
+    (rw ((c .before .before .before .before .before .before .root2) .given .1) at ((c .before .before .before .before .before .before .before .before .before .before .one-rule) .ensures)) ((c .before .before .before .visit) .ensures))
 
 sub-rule-two-rule-requires : (t : ℕ) → sub-rule-lts.Need-two-rule-requires (sub-rule-claims t) (sub-rule-at t) sub-rule.Post
 sub-rule-two-rule-requires t c κs = ((c .before .before .pre) .1 .0, (c .before .before .pre) .1 .1)
@@ -409,6 +418,9 @@ sub-rule-visit-requires t c κs =
     let own = (c .before .before .before .before .before .before .before .before .before .pre) .0 in
     (omega arith, (ran .1 .ran .live, (ran .1 .ran .root-below, two-again-over-normal ((c .before .before .before .before .before .before .before .before .before .pre) .1 .0) ((c .before .before .before .before .before .before .before .before .before .pre) .1 .1) ((c .before .before .before .before .before .before .two-rule) .last .0) ((c .before .before .root2) .given .0 .0) ((c .before .before .root2) .given .0 .1 .0) ran)))
 
+sub-rule-anew-requires : (t : ℕ) → sub-rule-lts.Need-anew-requires (sub-rule-claims t) (sub-rule-at t) sub-rule.Post
+sub-rule-anew-requires t c κs = search needs
+
 sub-rule-same-length : (t : ℕ) → sub-rule-lts.Need-same-length (sub-rule-claims t) (sub-rule-at t) sub-rule.Post
 sub-rule-same-length t c = search needs
 
@@ -426,8 +438,9 @@ sub-rule-same-length-3 t c = search needs
 
 sub-rule-returns-3 : (t : ℕ) → sub-rule-lts.Need-returns-3 (sub-rule-claims t) (sub-rule-at t) sub-rule.Post
 sub-rule-returns-3 t c =
-    two-again-ended ((c .before .before .before .before .before .before .before .before .before .before .before .before .pre) .1 .0) ((c .before .before .before .before .before .before .before .before .before .before .before .before .pre) .1 .1) ((c .before .before .before .before .before .before .before .before .before .two-rule) .last .0) ((c .before .before .visit) .last .0) ((c .before .before .before .before .before .root2) .given .0 .0) ((c .before .before .before .before .before .root2) .given .0 .1 .0) ((c .before .before .visit) .result)
-    (rw ((c .before .before .before .before .before .root2) .given .1) at ((c .before .before .before .before .before .before .before .before .before .two-rule) .ensures)) ((c .before .before .visit) .ensures)
+    rw ((c .anew) .ensures)
+    (two-again-ended ((c .before .before .before .before .before .before .before .before .before .before .before .before .before .pre) .1 .0) ((c .before .before .before .before .before .before .before .before .before .before .before .before .before .pre) .1 .1) ((c .before .before .before .before .before .before .before .before .before .before .two-rule) .last .0) ((c .before .before .before .visit) .last .0) ((c .before .before .before .before .before .before .root2) .given .0 .0) ((c .before .before .before .before .before .before .root2) .given .0 .1 .0) ((c .before .before .before .visit) .result)
+    (rw ((c .before .before .before .before .before .before .root2) .given .1) at ((c .before .before .before .before .before .before .before .before .before .before .two-rule) .ensures)) ((c .before .before .before .visit) .ensures))
 
 visit-node-at-requires : (t : ℕ) → visit-lts.Need-node-at-requires (visit-claims t) (visit-at t) visit.Post
 visit-node-at-requires t c κs = node-inside ((c .before .before .pre) .1 .0) ((c .before .before .args) .i) ((c .before .before .pre) .1 .1 .0)
@@ -454,17 +467,24 @@ visit-after-one-requires t c κs =
     let same = one-same-weight ((c .before .before .before .before .before .before .before .before .pre) .1 .0) ((c .before .before .before .before .before .before .before .before .args) .i) ((c .before .before .before .before .before .before .before .before .pre) .1 .1 .0) ((c .before .before .before .before .before .before .before .before .args) .ready) ((c .before .if1) .taken) ((c .before .before .before .before .before .before .before .before .pre) .1 .1 .1) ((c .before .before .before .op) .given .0 .0) ((c .before .before .before .op) .given .0 .1 .0) ((c .before .before .before .op) .given .0 .1 .1 .0) node in
     (omega arith, ((c .before .before .before .before .before .before .before .before .pre) .1 .0, one-prepared ((c .before .before .before .before .before .before .before .before .pre) .1 .0) ((c .before .before .before .before .before .before .before .before .args) .i) ((c .before .before .before .before .before .before .before .before .pre) .1 .1 .0) ((c .before .before .before .before .before .before .before .before .args) .ready) ((c .before .if1) .taken) ((c .before .before .before .before .before .before .before .before .pre) .1 .1 .1) ((c .before .before .before .op) .given .0 .0) ((c .before .before .before .op) .given .0 .1 .0) ((c .before .before .before .op) .given .0 .1 .1 .0) node))
 
+visit-anew-requires : (t : ℕ) → visit-lts.Need-anew-requires (visit-claims t) (visit-at t) visit.Post
+visit-anew-requires t c κs = search needs
+
 visit-same-length : (t : ℕ) → visit-lts.Need-same-length (visit-claims t) (visit-at t) visit.Post
 visit-same-length t c = search needs
 
 visit-returns : (t : ℕ) → visit-lts.Need-returns (visit-claims t) (visit-at t) visit.Post
 visit-returns t c =
-    one-prepared-ended ((c .before .before .before .before .before .before .before .before .before .before .before .pre) .1 .0) ((c .before .before .before .before .before .before .before .before .before .before .before .args) .i) ((c .before .before .before .before .before .before .before .before .before .before .before .pre) .1 .1 .0) ((c .before .before .before .before .before .before .before .before .before .before .before .args) .ready) ((c .before .before .before .before .if1) .taken) ((c .before .before .before .before .before .before .before .before .before .before .before .pre) .1 .1 .1) ((c .before .before .before .before .before .before .op) .given .0 .0) ((c .before .before .before .before .before .before .op) .given .0 .1 .0) ((c .before .before .before .before .before .before .op) .given .0 .1 .1 .0) (sym ((c .before .before .before .before .before .before .before .before .node-at) .ensures) ∙ (c .before .before .before .before .before .before .op) .given .1) ((c .before .before .after-one) .last .0) ((c .before .before .after-one) .result) ((c .before .before .after-one) .ensures)
+    rw ((c .anew) .ensures)
+    (one-prepared-ended ((c .before .before .before .before .before .before .before .before .before .before .before .before .pre) .1 .0) ((c .before .before .before .before .before .before .before .before .before .before .before .before .args) .i) ((c .before .before .before .before .before .before .before .before .before .before .before .before .pre) .1 .1 .0) ((c .before .before .before .before .before .before .before .before .before .before .before .before .args) .ready) ((c .before .before .before .before .before .if1) .taken) ((c .before .before .before .before .before .before .before .before .before .before .before .before .pre) .1 .1 .1) ((c .before .before .before .before .before .before .before .op) .given .0 .0) ((c .before .before .before .before .before .before .before .op) .given .0 .1 .0) ((c .before .before .before .before .before .before .before .op) .given .0 .1 .1 .0) (sym ((c .before .before .before .before .before .before .before .before .before .node-at) .ensures) ∙ (c .before .before .before .before .before .before .before .op) .given .1) ((c .before .before .before .after-one) .last .0) ((c .before .before .before .after-one) .result) ((c .before .before .before .after-one) .ensures))
 
 visit-visit-one-requires : (t : ℕ) → visit-lts.Need-visit-one-requires (visit-claims t) (visit-at t) visit.Post
 visit-visit-one-requires t c κs =
     let own = (c .before .before .before .before .before .before .before .before .pre) .0 in
     (omega arith, ((c .before .before .before .before .before .before .before .before .pre) .1 .0, ((c .before .before .before .before .before .before .before .before .pre) .1 .1 .0, sym ((c .before .before .before .before .before .node-at) .ensures) ∙ (c .before .before .before .op) .given .1)))
+
+visit-anew-requires-2 : (t : ℕ) → visit-lts.Need-anew-requires-2 (visit-claims t) (visit-at t) visit.Post
+visit-anew-requires-2 t c κs = search needs
 
 visit-enum-known-op-2 : (t : ℕ) → visit-lts.Need-enum-known-op-2 (visit-claims t) (visit-at t) visit.Post
 visit-enum-known-op-2 t c = search needs
@@ -476,17 +496,24 @@ visit-after-two-requires t c κs =
     let same = two-same-weight ((c .before .before .before .before .before .before .before .before .pre) .1 .0) ((c .before .before .before .before .before .before .before .before .args) .i) ((c .before .before .before .before .before .before .before .before .pre) .1 .1 .0) ((c .before .before .before .before .before .before .before .before .args) .ready) ((c .before .if2) .taken) ((c .before .before .before .before .before .before .before .before .pre) .1 .1 .1) ((c .before .before .before .op2) .given .0 .0) ((c .before .before .before .op2) .given .0 .1 .0) ((c .before .before .before .op2) .given .0 .1 .1 .0) ((c .before .before .before .op2) .given .0 .1 .1 .1 .0) node in
     (omega arith, ((c .before .before .before .before .before .before .before .before .pre) .1 .0, two-prepared ((c .before .before .before .before .before .before .before .before .pre) .1 .0) ((c .before .before .before .before .before .before .before .before .args) .i) ((c .before .before .before .before .before .before .before .before .pre) .1 .1 .0) ((c .before .before .before .before .before .before .before .before .args) .ready) ((c .before .if2) .taken) ((c .before .before .before .before .before .before .before .before .pre) .1 .1 .1) ((c .before .before .before .op2) .given .0 .0) ((c .before .before .before .op2) .given .0 .1 .0) ((c .before .before .before .op2) .given .0 .1 .1 .0) ((c .before .before .before .op2) .given .0 .1 .1 .1 .0) node))
 
+visit-anew-requires-3 : (t : ℕ) → visit-lts.Need-anew-requires-3 (visit-claims t) (visit-at t) visit.Post
+visit-anew-requires-3 t c κs = search needs
+
 visit-same-length-2 : (t : ℕ) → visit-lts.Need-same-length-2 (visit-claims t) (visit-at t) visit.Post
 visit-same-length-2 t c = search needs
 
 visit-returns-2 : (t : ℕ) → visit-lts.Need-returns-2 (visit-claims t) (visit-at t) visit.Post
 visit-returns-2 t c =
-    two-prepared-ended ((c .before .before .before .before .before .before .before .before .before .before .before .pre) .1 .0) ((c .before .before .before .before .before .before .before .before .before .before .before .args) .i) ((c .before .before .before .before .before .before .before .before .before .before .before .pre) .1 .1 .0) ((c .before .before .before .before .before .before .before .before .before .before .before .args) .ready) ((c .before .before .before .before .if2) .taken) ((c .before .before .before .before .before .before .before .before .before .before .before .pre) .1 .1 .1) ((c .before .before .before .before .before .before .op2) .given .0 .0) ((c .before .before .before .before .before .before .op2) .given .0 .1 .0) ((c .before .before .before .before .before .before .op2) .given .0 .1 .1 .0) ((c .before .before .before .before .before .before .op2) .given .0 .1 .1 .1 .0) (sym ((c .before .before .before .before .before .before .before .before .node-at) .ensures) ∙ (c .before .before .before .before .before .before .op2) .given .1) ((c .before .before .after-two) .last .0) ((c .before .before .after-two) .result) ((c .before .before .after-two) .ensures)
+    rw ((c .anew3) .ensures)
+    (two-prepared-ended ((c .before .before .before .before .before .before .before .before .before .before .before .before .pre) .1 .0) ((c .before .before .before .before .before .before .before .before .before .before .before .before .args) .i) ((c .before .before .before .before .before .before .before .before .before .before .before .before .pre) .1 .1 .0) ((c .before .before .before .before .before .before .before .before .before .before .before .before .args) .ready) ((c .before .before .before .before .before .if2) .taken) ((c .before .before .before .before .before .before .before .before .before .before .before .before .pre) .1 .1 .1) ((c .before .before .before .before .before .before .before .op2) .given .0 .0) ((c .before .before .before .before .before .before .before .op2) .given .0 .1 .0) ((c .before .before .before .before .before .before .before .op2) .given .0 .1 .1 .0) ((c .before .before .before .before .before .before .before .op2) .given .0 .1 .1 .1 .0) (sym ((c .before .before .before .before .before .before .before .before .before .node-at) .ensures) ∙ (c .before .before .before .before .before .before .before .op2) .given .1) ((c .before .before .before .after-two) .last .0) ((c .before .before .before .after-two) .result) ((c .before .before .before .after-two) .ensures))
 
 visit-visit-two-requires : (t : ℕ) → visit-lts.Need-visit-two-requires (visit-claims t) (visit-at t) visit.Post
 visit-visit-two-requires t c κs =
     let own = (c .before .before .before .before .before .before .before .before .pre) .0 in
     (omega arith, ((c .before .before .before .before .before .before .before .before .pre) .1 .0, ((c .before .before .before .before .before .before .before .before .pre) .1 .1 .0, sym ((c .before .before .before .before .before .node-at) .ensures) ∙ (c .before .before .before .op2) .given .1)))
+
+visit-anew-requires-4 : (t : ℕ) → visit-lts.Need-anew-requires-4 (visit-claims t) (visit-at t) visit.Post
+visit-anew-requires-4 t c κs = search needs
 
 visit-same-length-3 : (t : ℕ) → visit-lts.Need-same-length-3 (visit-claims t) (visit-at t) visit.Post
 visit-same-length-3 t c = search needs
@@ -516,13 +543,13 @@ visit-same-length-7 : (t : ℕ) → visit-lts.Need-same-length-7 (visit-claims t
 visit-same-length-7 t c = search needs
 
 visit-returns-7 : (t : ℕ) → visit-lts.Need-returns-7 (visit-claims t) (visit-at t) visit.Post
-visit-returns-7 t c = (c .before .before .visit-one) .ensures
+visit-returns-7 t c = rw ((c .anew2) .ensures) ((c .before .before .before .visit-one) .ensures)
 
 visit-same-length-8 : (t : ℕ) → visit-lts.Need-same-length-8 (visit-claims t) (visit-at t) visit.Post
 visit-same-length-8 t c = search needs
 
 visit-returns-8 : (t : ℕ) → visit-lts.Need-returns-8 (visit-claims t) (visit-at t) visit.Post
-visit-returns-8 t c = (c .before .before .visit-two) .ensures
+visit-returns-8 t c = rw ((c .anew4) .ensures) ((c .before .before .before .visit-two) .ensures)
 
 visit-one-dispatch-requires : (t : ℕ) → visit-one-lts.Need-dispatch-requires (visit-one-claims t) (visit-one-at t) visit-one.Post
 visit-one-dispatch-requires t c κs =
@@ -621,12 +648,8 @@ pub +add-rule+after-one+after-two+dispatch+sext-rule+sub-rule+visit+visit-one+vi
     μ-visit
     μ-visit-one
     μ-visit-two
-    (λ t. add-rule-lts.spec (
-      two-rule-reads.Asked,
-      two-rule-reads.Learnt,
-      visit-below t,
-      visit.Post,
-    )
+    (λ t. add-rule-lts.spec
+    (add-rule-claims t)
     (add-rule-at t)
     add-rule.Post
     (add-rule-two-rule-requires t)
@@ -634,6 +657,7 @@ pub +add-rule+after-one+after-two+dispatch+sext-rule+sub-rule+visit+visit-one+vi
     (add-rule-enum-known-root t)
     (add-rule-enum-known-root-2 t)
     (add-rule-visit-requires t)
+    (add-rule-anew-requires t)
     (add-rule-same-length t)
     (add-rule-returns t)
     (add-rule-same-length-2 t)
@@ -715,12 +739,8 @@ pub +add-rule+after-one+after-two+dispatch+sext-rule+sub-rule+visit+visit-one+vi
     (dispatch-visit-requires t)
     (dispatch-same-length t)
     (dispatch-returns t))
-    (λ t. sext-rule-lts.spec (
-      one-rule-reads.Asked,
-      one-rule-reads.Learnt,
-      visit-below t,
-      visit.Post,
-    )
+    (λ t. sext-rule-lts.spec
+    (sext-rule-claims t)
     (sext-rule-at t)
     sext-rule.Post
     (sext-rule-one-rule-requires t)
@@ -728,18 +748,15 @@ pub +add-rule+after-one+after-two+dispatch+sext-rule+sub-rule+visit+visit-one+vi
     (sext-rule-enum-known-root t)
     (sext-rule-enum-known-root-2 t)
     (sext-rule-visit-requires t)
+    (sext-rule-anew-requires t)
     (sext-rule-same-length t)
     (sext-rule-returns t)
     (sext-rule-same-length-2 t)
     (sext-rule-returns-2 t)
     (sext-rule-same-length-3 t)
     (sext-rule-returns-3 t))
-    (λ t. sub-rule-lts.spec (
-      two-rule-reads.Asked,
-      two-rule-reads.Learnt,
-      visit-below t,
-      visit.Post,
-    )
+    (λ t. sub-rule-lts.spec
+    (sub-rule-claims t)
     (sub-rule-at t)
     sub-rule.Post
     (sub-rule-two-rule-requires t)
@@ -747,6 +764,7 @@ pub +add-rule+after-one+after-two+dispatch+sext-rule+sub-rule+visit+visit-one+vi
     (sub-rule-enum-known-root t)
     (sub-rule-enum-known-root-2 t)
     (sub-rule-visit-requires t)
+    (sub-rule-anew-requires t)
     (sub-rule-same-length t)
     (sub-rule-returns t)
     (sub-rule-same-length-2 t)
@@ -764,14 +782,18 @@ pub +add-rule+after-one+after-two+dispatch+sext-rule+sub-rule+visit+visit-one+vi
     (visit-enum-told-4 t)
     (visit-enum-known-op t)
     (visit-after-one-requires t)
+    (visit-anew-requires t)
     (visit-same-length t)
     (visit-returns t)
     (visit-visit-one-requires t)
+    (visit-anew-requires-2 t)
     (visit-enum-known-op-2 t)
     (visit-after-two-requires t)
+    (visit-anew-requires-3 t)
     (visit-same-length-2 t)
     (visit-returns-2 t)
     (visit-visit-two-requires t)
+    (visit-anew-requires-4 t)
     (visit-same-length-3 t)
     (visit-returns-3 t)
     (visit-same-length-4 t)
