@@ -1,4 +1,4 @@
 pub mod Children
-pub mod Budget
+pub mod Paths
 pub mod Walks
 pub mod Sizes

@@ -1,10 +1,9 @@
 // The limits of the tree under a root. A shared node counts once for every way that it is reached.
 ghost use mathlib.Core.Path.{_≡_};
-ghost use Prim.Native.Nat.{_+_, _*_, _<_};
+ghost use Prim.Native.Nat.{_+_, _-_, _*_, _<_};
 ghost use lib.Dec.{leb};
 ghost use lib.ListN.{length};
 ghost use Rattle.arena.specs.Live.{treeOf};
-ghost use Rattle.form.specs.Budget.{spent};
 ghost use Rattle.form.specs.Children.{childrenOf, Within};
 ghost use Rattle.format.specs.Limits.{nodeWords};
 ghost use Rattle.tree.specs.Arena.{nodeAt};
@@ -22,12 +21,6 @@ pub enum Children {
     Two(usize, usize),
 }
 
-// What is left of a number of nodes.
-pub enum Budget {
-    Left(u64),
-    Over,
-}
-
 fn children_at(words: &[u64], i: usize) -> Children
     requires { ⌜ nodeWords * i + 1 < length (now words) ⌝ }
     ensures { λ r. ⌜ r ≡ childrenOf (nodeAt (now (words .entry)) i) ⌝ }
@@ -42,21 +35,21 @@ fn children_at(words: &[u64], i: usize) -> Children
     }
 }
 
-// A budget, less the nodes of the tree under i. At most one node more is visited than the budget has.
-fn spend(words: &[u64], count: usize, i: usize, budget: u64) -> Budget
+// A budget, less the nodes of the tree under i, or 0. A node that finds 0 left looks at nothing.
+fn spend(words: &[u64], count: usize, i: usize, budget: u64) -> u64
     requires { ⌜ Within (now words) count i ⌝ }
-    ensures { λ r. ⌜ r ≡ spent budget (nodes (treeOf count (now (words .entry)) i)) ⌝ }
+    ensures { λ r. ⌜ r ≡ budget - nodes (treeOf count (now (words .entry)) i) ⌝ }
 {
     if budget == 0 {
-        return Budget::Over;
+        return 0;
     }
     match children_at(words, i) {
-        Children::None => Budget::Left(budget - 1),
+        Children::None => budget - 1,
         Children::One(left) => spend(words, count, left, budget - 1),
-        Children::Two(left, right) => match spend(words, count, left, budget - 1) {
-            Budget::Left(rest) => spend(words, count, right, rest),
-            Budget::Over => Budget::Over,
-        },
+        Children::Two(left, right) => {
+            let rest = spend(words, count, left, budget - 1);
+            spend(words, count, right, rest)
+        }
     }
 }
 
@@ -85,7 +78,7 @@ pub fn limited(words: &[u64], count: usize, root: usize) -> Verdict
     requires { ⌜ Within (now words) count root ⌝ }
     ensures { λ r. ⌜ r ≡ limitedOf (treeOf count (now (words .entry)) root) ⌝ }
 {
-    if let Budget::Over = spend(words, count, root, MAX_UNFOLDED) {
+    if spend(words, count, root, MAX_UNFOLDED + 1) == 0 {
         return Verdict::TooManyNodes;
     }
     if path_within(words, count, root, MAX_PATH) {

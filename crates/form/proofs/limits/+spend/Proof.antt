@@ -8,7 +8,7 @@ use native.Mathlib.Omega.{arith}
 use Rattle.arena.specs.Live.{treeOf}
 use Rattle.arena.specs.LiveLaws.{node-inside}
 use Rattle.form.specs.Children.{children-below, down}
-use Rattle.form.specs.Walks.{nothing-left, spend-leaf, spend-one, spend-two, spend-over}
+use Rattle.form.specs.Walks.{nothing-left, spend-leaf, spend-one, spend-two}
 use Rattle.form.proofs.limits.spend.Reads as spend
 use Rattle.form.proofs.limits.spend.Kinds as spend-kinds
 use Rattle.form.proofs.limits.+spend.Lts-spend as spend-lts
@@ -29,20 +29,16 @@ abbrev claims : ℕ → spend-lts.Claims
 claims t = (children-at-reads.Asked, children-at-reads.Learnt, spend-below t, spend.Post)
 
 spend-returns : (t : ℕ) → spend-lts.Need-returns (claims t) (spend-at t) spend.Post
-spend-returns t c =
-    let a = c .before .before .args in
-    nothing-left (a .budget) (c .if1 .taken) (treeOf (a .count) (a .words .now) (a .i))
+spend-returns t c = nothing-left ((c .before .before .args) .budget) ((c .if1) .taken) (treeOf ((c .before .before .args) .count) ((c .before .before .args) .words .now) ((c .before .before .args) .i))
 
 spend-children-at-requires : (t : ℕ) → spend-lts.Need-children-at-requires (claims t) (spend-at t) spend.Post
-spend-children-at-requires t c κs =
-    let start = c .before .before in
-    node-inside (start .pre .1 .live) (start .args .i) (start .pre .1 .below)
+spend-children-at-requires t c κs = node-inside ((c .before .before .pre) .1 .live) ((c .before .before .args) .i) ((c .before .before .pre) .1 .below)
 
 spend-enum-told : (t : ℕ) → spend-lts.Need-enum-told (claims t) (spend-at t) spend.Post
 spend-enum-told t c = search needs
 
-spend-sub-t12 : (t : ℕ) → spend-lts.Need-sub-t12 (claims t) (spend-at t) spend.Post
-spend-sub-t12 t c = omega arith
+spend-sub-result : (t : ℕ) → spend-lts.Need-sub-result (claims t) (spend-at t) spend.Post
+spend-sub-result t c = omega arith
 
 spend-enum-known-left : (t : ℕ) → spend-lts.Need-enum-known-left (claims t) (spend-at t) spend.Post
 spend-enum-known-left t c = search needs
@@ -52,9 +48,8 @@ spend-sub-spend t c = omega arith
 
 spend-spend-requires : (t : ℕ) → spend-lts.Need-spend-requires (claims t) (spend-at t) spend.Post
 spend-spend-requires t c κs =
-    let start = c .before .before .before .before .before .before in
-    let read = sym (c .before .before .before .children-at .ensures) ∙ c .before .left .given .1 in
-    down (start .pre .1) (start .pre .0) (children-below (start .pre .1) _ read)
+    let read = sym ((c .before .before .before .children-at) .ensures) ∙ (c .before .left) .given .1 in
+    down ((c .before .before .before .before .before .before .pre) .1) ((c .before .before .before .before .before .before .pre) .0) (children-below ((c .before .before .before .before .before .before .pre) .1) _ read)
 
 spend-enum-known-left-2 : (t : ℕ) → spend-lts.Need-enum-known-left-2 (claims t) (spend-at t) spend.Post
 spend-enum-known-left-2 t c = search needs
@@ -64,47 +59,22 @@ spend-sub-spend-2 t c = omega arith
 
 spend-spend-requires-2 : (t : ℕ) → spend-lts.Need-spend-requires-2 (claims t) (spend-at t) spend.Post
 spend-spend-requires-2 t c κs =
-    let start = c .before .before .before .before .before .before in
-    let read = sym (c .before .before .before .children-at .ensures) ∙ c .before .left2 .given .1 in
-    down (start .pre .1) (start .pre .0) (children-below (start .pre .1) _ read .0)
-
-spend-enum-known-rest : (t : ℕ) → spend-lts.Need-enum-known-rest (claims t) (spend-at t) spend.Post
-spend-enum-known-rest t c = search needs
+    let read = sym ((c .before .before .before .children-at) .ensures) ∙ (c .before .left2) .given .1 in
+    down ((c .before .before .before .before .before .before .pre) .1) ((c .before .before .before .before .before .before .pre) .0) (children-below ((c .before .before .before .before .before .before .pre) .1) _ read .0)
 
 spend-spend-requires-3 : (t : ℕ) → spend-lts.Need-spend-requires-3 (claims t) (spend-at t) spend.Post
 spend-spend-requires-3 t c κs =
-    let start = c .before .before .before .before .before .before .before .before .before .before in
-    let read = sym (c .before .before .before .before .before .before .before .children-at .ensures) ∙ c .before .before .before .before .before .left2 .given .1 in
-    down (start .pre .1) (start .pre .0) (children-below (start .pre .1) _ read .1)
-
-spend-enum-told-2 : (t : ℕ) → spend-lts.Need-enum-told-2 (claims t) (spend-at t) spend.Post
-spend-enum-told-2 t c = search needs
+    let read = sym ((c .before .before .before .before .children-at) .ensures) ∙ (c .before .before .left2) .given .1 in
+    down ((c .before .before .before .before .before .before .before .pre) .1) ((c .before .before .before .before .before .before .before .pre) .0) (children-below ((c .before .before .before .before .before .before .before .pre) .1) _ read .1)
 
 spend-returns-2 : (t : ℕ) → spend-lts.Need-returns-2 (claims t) (spend-at t) spend.Post
-spend-returns-2 t c =
-    let start = c .before .before .before .before .before in
-    let read = sym (c .before .before .children-at .ensures) ∙ c .enum-told .given .1 in
-    spend-leaf (start .pre .1) _ (c .before .before .before .if1 .left) read
+spend-returns-2 t c = spend-leaf ((c .before .before .before .before .before .pre) .1) ((c .before .before .before .before .before .args) .budget) (sym ((c .before .before .children-at) .ensures) ∙ (c .enum-told) .given .1)
 
 spend-returns-3 : (t : ℕ) → spend-lts.Need-returns-3 (claims t) (spend-at t) spend.Post
-spend-returns-3 t c =
-    let start = c .before .before .before .before .before .before .before in
-    let read = sym (c .before .before .before .before .children-at .ensures) ∙ c .before .before .left .given .1 in
-    c .spend .ensures ∙ spend-one (start .pre .1) _ (c .before .before .before .before .before .if1 .left) _ read
+spend-returns-3 t c = (c .spend) .ensures ∙ spend-one ((c .before .before .before .before .before .before .before .pre) .1) ((c .before .before .before .before .before .before .before .args) .budget) _ (sym ((c .before .before .before .before .children-at) .ensures) ∙ (c .before .before .left) .given .1)
 
 spend-returns-4 : (t : ℕ) → spend-lts.Need-returns-4 (claims t) (spend-at t) spend.Post
-spend-returns-4 t c =
-    let start = c .before .before .before .before .before .before .before .before .before .before .before in
-    let read = sym (c .before .before .before .before .before .before .before .before .children-at .ensures) ∙ c .before .before .before .before .before .before .left2 .given .1 in
-    let rest = sym (c .before .before .rest .given .1) ∙ c .before .before .before .before .spend2 .ensures in
-    c .spend3 .ensures ∙ spend-two (start .pre .1) _ (c .before .before .before .before .before .before .before .before .before .if1 .left) _ _ read _ rest
-
-spend-returns-5 : (t : ℕ) → spend-lts.Need-returns-5 (claims t) (spend-at t) spend.Post
-spend-returns-5 t c =
-    let start = c .before .before .before .before .before .before .before .before .before in
-    let read = sym (c .before .before .before .before .before .before .children-at .ensures) ∙ c .before .before .before .before .left2 .given .1 in
-    let over = sym (c .enum-told2 .given .1) ∙ c .before .before .spend2 .ensures in
-    spend-over (start .pre .1) _ (c .before .before .before .before .before .before .before .if1 .left) _ _ read over
+spend-returns-4 t c = (c .spend3) .ensures ∙ spend-two ((c .before .before .before .before .before .before .before .before .pre) .1) ((c .before .before .before .before .before .before .before .before .args) .budget) _ _ _ (sym ((c .before .before .before .before .before .children-at) .ensures) ∙ (c .before .before .before .left2) .given .1) ((c .before .spend2) .ensures)
 
 pub +spend-spec : {M : Type 1} → statement M
 +spend-spec = close μ-spend λ t. spend-lts.spec (claims t)
@@ -113,17 +83,14 @@ pub +spend-spec : {M : Type 1} → statement M
     (spend-returns t)
     (spend-children-at-requires t)
     (spend-enum-told t)
-    (spend-sub-t12 t)
+    (spend-sub-result t)
     (spend-enum-known-left t)
     (spend-sub-spend t)
     (spend-spend-requires t)
     (spend-enum-known-left-2 t)
     (spend-sub-spend-2 t)
     (spend-spend-requires-2 t)
-    (spend-enum-known-rest t)
     (spend-spend-requires-3 t)
-    (spend-enum-told-2 t)
     (spend-returns-2 t)
     (spend-returns-3 t)
     (spend-returns-4 t)
-    (spend-returns-5 t)

@@ -6,43 +6,26 @@ use Rattle.form.specs.Walks.{too-many, passed, too-long}
 use Rattle.form.proofs.limits.limited.Statement.{statement}
 use Rattle.form.proofs.limits.limited.Tie as tie
 
+add-spend : tie.Need-add-spend
+add-spend c = search needs
+
 spend-requires : tie.Need-spend-requires
 spend-requires c κs = search needs
 
-enum-told : tie.Need-enum-told
-enum-told c = search needs
-
 returns : tie.Need-returns
-returns c =
-    let a = c .before .before .before .before .args in
-    too-many (treeOf (a .count) (a .words .now) (a .root)) (sym (c .enum-told .given .1) ∙ c .before .before .spend .ensures)
-
-enum-told-2 : tie.Need-enum-told-2
-enum-told-2 c = search needs
+returns c = too-many (treeOf ((c .before .before .before .args) .count) ((c .before .before .before .args) .words .now) ((c .before .before .before .args) .root)) ((c .before .spend) .result) ((c .before .spend) .ensures) ((c .if1) .taken)
 
 path-within-requires : tie.Need-path-within-requires
 path-within-requires c κs = search needs
 
 returns-2 : tie.Need-returns-2
 returns-2 c =
-    let a = c .before .before .before .before .before .before .args in
-    let left = sym (c .before .before .enum-told2 .given .1) ∙ c .before .before .before .before .spend .ensures in
-    passed (treeOf (a .count) (a .words .now) (a .root)) _ left (sym (c .if1 .taken) ∙ c .before .path-within .ensures)
+    passed (treeOf ((c .before .before .before .before .before .args) .count) ((c .before .before .before .before .before .args) .words .now) ((c .before .before .before .before .before .args) .root)) ((c .before .before .before .spend) .result) ((c .before .before .before .spend) .ensures) ((c .before .before .if1) .left) (sym ((c .if2) .taken) ∙ (c .before .path-within) .ensures)
 
 returns-3 : tie.Need-returns-3
 returns-3 c =
-    let a = c .before .before .before .before .before .before .args in
-    let left = sym (c .before .before .enum-told2 .given .1) ∙ c .before .before .before .before .spend .ensures in
-    too-long (treeOf (a .count) (a .words .now) (a .root)) _ left (sym (c .if1 .left) ∙ c .before .path-within .ensures)
+    too-long (treeOf ((c .before .before .before .before .before .args) .count) ((c .before .before .before .before .before .args) .words .now) ((c .before .before .before .before .before .args) .root)) ((c .before .before .before .spend) .result) ((c .before .before .before .spend) .ensures) ((c .before .before .if1) .left) (sym ((c .if2) .left) ∙ (c .before .path-within) .ensures)
 
 pub limited-spec : {M : Type 1} → statement M
 limited-spec =
-    tie.close
-    (tie.spec
-    spend-requires
-    enum-told
-    returns
-    enum-told-2
-    path-within-requires
-    returns-2
-    returns-3)
+    tie.close (tie.spec add-spend spend-requires returns path-within-requires returns-2 returns-3)
