@@ -2,7 +2,7 @@
 ghost use mathlib.Core.Path.{_≡_};
 ghost use Prim.Native.Nat.{_<_};
 ghost use Rattle.tree.specs.Arena.{nodeAt, nodesOf};
-ghost use Rattle.rules.specs.Run.{append, keptAs, makeConst, simplified};
+ghost use Rattle.rules.specs.Run.{append, keptAs, simplified};
 ghost use Rattle.theory.specs.Visits.{redoes as redoesAct, carried};
 ghost use Rattle.arena.specs.Live.{Live, treeOf};
 ghost use Rattle.arena.specs.Ended.{Ended};
@@ -17,6 +17,7 @@ use format::Bin;
 use format::Node;
 use format::Un;
 use rules::Act;
+use values::make_const;
 
 // Which rules of two children simplify again what they have rebuilt.
 pub enum Turn {
@@ -62,13 +63,6 @@ fn redoes(act: Act) -> bool
         Act::Redo(_, _, _) => true,
         Act::RedoUnary(_, _) => true,
     }
-}
-
-fn make_const(size: u64, v: u64) -> Node
-    requires { ⌜ Size size ⌝ }
-    ensures { λ r. ⌜ r ≡ makeConst size v ⌝ }
-{
-    Node::Const(size, arith::width::cut(size, v))
 }
 
 // Carries an action out, short of simplifying again. `kept` is whether node i has its children still, `own` the node over

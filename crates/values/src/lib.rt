@@ -1,11 +1,14 @@
-// The value of an operator on numbers: what folding two constants makes, and what evaluation computes.
+// The value of an operator on numbers: what folding two constants makes, and what evaluation computes. And the constant that
+// holds a number.
 ghost use mathlib.Core.Path.{_≡_};
-ghost use Rattle.arith.specs.Operands.{Extension};
+ghost use Rattle.arith.specs.Operands.{Extension, Size};
 ghost use Rattle.tree.specs.Meaning.{unValue, binValue};
 ghost use Rattle.tree.specs.Form.{binSizing};
+ghost use Rattle.rules.specs.Run.{makeConst};
 ghost use Rattle.values.specs.Operands.{Fitting};
 use arith::ops;
 use format::Bin;
+use format::Node;
 use format::Un;
 
 // x is a number of `child` bytes.
@@ -37,4 +40,12 @@ pub fn bin_value(op: Bin, size: u64, child: u64, x: u64, y: u64) -> u64
         Bin::IntSCarry => flags::scarry_at(child, x, y),
         Bin::IntSBorrow => flags::sborrow_at(child, x, y),
     }
+}
+
+// What a rule makes of a 64-bit number: its low bits, as many as the size has.
+pub fn make_const(size: u64, v: u64) -> Node
+    requires { ⌜ Size size ⌝ }
+    ensures { λ r. ⌜ r ≡ makeConst size v ⌝ }
+{
+    Node::Const(size, arith::width::cut(size, v))
 }
