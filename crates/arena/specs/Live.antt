@@ -47,3 +47,11 @@ nodeIsTop (Node.Const size value) = false
 nodeIsTop (Node.Bind size id) = false
 nodeIsTop (Node.Unary op size left) = false
 nodeIsTop (Node.Binary op size left right) = false
+
+abbrev pub nodeIsLeaf : Node → Bool
+nodeIsLeaf Node.Top = true
+nodeIsLeaf (Node.Entry size space offset) = true
+nodeIsLeaf (Node.Const size value) = true
+nodeIsLeaf (Node.Bind size id) = true
+nodeIsLeaf (Node.Unary op size left) = false
+nodeIsLeaf (Node.Binary op size left right) = false

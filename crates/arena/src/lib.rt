@@ -5,7 +5,7 @@ ghost use lib.ListN.{length};
 ghost use Rattle.format.specs.Limits.{nodeWords, capacity as capacityOf};
 ghost use Rattle.tree.specs.Arena.{nodeAt, nodesOf};
 ghost use Rattle.rules.specs.Run.{append, leftChild, near as nearOf};
-ghost use Rattle.arena.specs.Live.{Live, New, nodeSize, nodeIsTop};
+ghost use Rattle.arena.specs.Live.{Live, New, nodeSize, nodeIsTop, nodeIsLeaf};
 ghost use Rattle.arena.specs.Ended.{Ended};
 use format::Node;
 use rules::Near;
@@ -57,6 +57,28 @@ pub fn is_top(node: Node) -> bool
         Node::Unary(_, _, _) => false,
         Node::Binary(_, _, _, _) => false,
     }
+}
+
+fn is_leaf_node(node: Node) -> bool
+    ensures { λ r. ⌜ r ≡ nodeIsLeaf node ⌝ }
+{
+    match node {
+        Node::Top => true,
+        Node::Entry(_, _, _) => true,
+        Node::Const(_, _) => true,
+        Node::Bind(_, _) => true,
+        Node::Unary(_, _, _) => false,
+        Node::Binary(_, _, _, _) => false,
+    }
+}
+
+// Whether node i has no children.
+pub fn is_leaf(words: &[u64], count: usize, i: usize) -> bool
+    requires { ⌜ Live (now words) count ⌝ }
+    requires { ⌜ i < count ⌝ }
+    ensures { λ r. ⌜ r ≡ nodeIsLeaf (nodeAt (now (words .entry)) i) ⌝ }
+{
+    is_leaf_node(node_at(words, i))
 }
 
 // The left child of node i. A leaf has none, and no rule asks for it.

@@ -7,10 +7,10 @@ use native.Mathlib.Omega.{arith}
 use lib.ListN.{length}
 use Rattle.acts.specs.Operated.{UnaryOver, BinaryOver}
 use Rattle.arena.specs.Ended.{Ended}
-use Rattle.arena.specs.Live.{Live, New, treeOf, nodeIsTop}
+use Rattle.arena.specs.Live.{Live, New, treeOf, nodeIsTop, nodeIsLeaf}
 use Rattle.arena.specs.LiveLaws.{live-ordered, in-arena, top-at, tree-of-node}
 use Rattle.arena.specs.declared.Step.{Step}
-use Rattle.format.specs.Truth.{or-left, or-right, or-neither}
+use Rattle.format.specs.Truth.{or-left, or-right, or-neither, not-both}
 use Rattle.format.specs.declared.Bin.{Bin}
 use Rattle.format.specs.declared.ChildSize.{ChildSize}
 use Rattle.format.specs.declared.Node.{Node}
@@ -20,10 +20,10 @@ use Rattle.run.specs.Chains.{after-run, ended-here, unary-child, unary-e
 use Rattle.run.specs.Visits.{OneAt, TwoAt}
 use Rattle.theory.specs.Normal.{Normal, normal-top}
 use Rattle.theory.specs.Reduced.{reduced-normal, reduced-top}
-use Rattle.theory.specs.Simulation.{simplified-stands}
+use Rattle.theory.specs.Simulation.{run-on-normal, simplified-stands}
 use Rattle.theory.specs.TreeRun.{reduced}
 use Rattle.theory.specs.Values.{over-reduced-one, over-reduced-two}
-use Rattle.theory.specs.Visits.{OverNormal, one-over-normal, two-over-normal, leaf-top, leaf-entry, leaf-const, leaf-bind}
+use Rattle.theory.specs.Visits.{OverNormal, leaf-top, leaf-entry, leaf-const, leaf-bind}
 use Rattle.tree.specs.Arena.{nodeAt, nodesOf, treeAt}
 use Rattle.tree.specs.ArenaLaws.{length-nodesOf, at-nodesOf, tree-stays}
 use Rattle.tree.specs.Form.{Sized, sized, unSizing, binSizing, sizeSeen}
@@ -46,6 +46,11 @@ pub record TwoReady (words : List ℕ) (count i : ℕ) (op : Bin) (s j k a b : �
   pub right-normal : Normal (treeOf count words b)
   pub sized-over : isTop (treeOf count words a) ≡ false → isTop (treeOf count words b) ≡ false →
       sized (binSizing op) s 0 (sizeSeen (treeOf count words a)) (sizeSeen (treeOf count words b)) ≡ true
+
+-- what the simplifying of a child may rely on: `ready` tells that it is simplified already
+abbrev pub Ready : (ready : Bool) → Tree → Type 0
+Ready true t = Normal t
+Ready false t = Unit {0}
 
 -- what a visit may rely on: `ready` tells that the node's children are simplified already
 abbrev pub Prepared : (ready : Bool) → Tree → Type 0
@@ -177,77 +182,54 @@ module _ {words : List ℕ} {n : ℕ} (live : Live words n) (i : ℕ) (hi : i < 
             sized-over = λ q r. rw (left-stays, right-is) (over-reduced-two op s (treeOf n words j) (treeOf n words k) both-sized (both-free q r) .0);
           }
 
--- THE CHILDREN ARE SIMPLIFIED ALREADY: nothing is visited, and the node's own children are what they have become
-
-module _ {words : List ℕ} {n : ℕ} (live : Live words n) (i : ℕ) (hi : i < n) (ready : Bool) (is : ready ≡ true) (p : Prepared ready (treeOf n words i)) where
-  module _ (op : Un) (s j : ℕ) (e : nodeAt words i ≡ Node.Unary op s j) where
-    tree-is : treeOf n words i ≡ unary op s (treeOf n words j)
-    tree-is = tree-of-node live i hi (Node.Unary op s j) e
-
-    normal : Normal (treeOf n words j)
-    normal = rw (is, tree-is) at p
-
-    own-sized : Sized (unary op s (treeOf n words j))
-    own-sized = rw tree-is at (live .sized i hi)
-
-    pub one-prepared : OneReady words n i op s j j
-    one-prepared =
-        record { below = hi; node-is = e; child-below = unary-child live i hi op s j e .0; child-normal = normal; sized-over = λ q. own-sized .0 }
-
-    pub one-same-weight : weight (unary op s (treeOf n words j)) ≡ weight (treeOf n words i)
-    one-same-weight = ap weight (sym tree-is)
-
-    pub one-prepared-ended : (after : List ℕ) (x : Step) → Ended words after n (afterOne words n i op s j j) x → Ended words after n (simplified (nodesOf n words) i) x
-    one-prepared-ended after x h =
-        rw (one-over-normal (nodesOf n words) (live-ordered live) i (in-arena live i hi) op s j (at-nodesOf n words i hi ∙ e) normal) h
-
-  module _ (op : Bin) (s j k : ℕ) (e : nodeAt words i ≡ Node.Binary op s j k) where
-    tree-of-two : treeOf n words i ≡ binary op s (treeOf n words j) (treeOf n words k)
-    tree-of-two = tree-of-node live i hi (Node.Binary op s j k) e
-
-    normals : Normal (treeOf n words j) × Normal (treeOf n words k)
-    normals = rw (is, tree-of-two) at p
-
-    two-sized : Sized (binary op s (treeOf n words j) (treeOf n words k))
-    two-sized = rw tree-of-two at (live .sized i hi)
-
-    pub two-prepared : TwoReady words n i op s j k j k
-    two-prepared =
-        let kids = binary-children live i hi op s j k e in
-        record {
-          below = hi;
-          node-is = e;
-          left-below = kids .0;
-          right-below = kids .1;
-          left-normal = normals .0;
-          right-normal = normals .1;
-          sized-over = λ q r. two-sized .0;
-        }
-
-    pub two-same-weight : weight (binary op s (treeOf n words j) (treeOf n words k)) ≡ weight (treeOf n words i)
-    two-same-weight = ap weight (sym tree-of-two)
-
-    pub two-prepared-ended : (after : List ℕ) (x : Step) → Ended words after n (afterTwo words n i op s j k j k) x → Ended words after n (simplified (nodesOf n words) i) x
-    two-prepared-ended after x h =
-        rw (two-over-normal (nodesOf n words) (live-ordered live) i (in-arena live i hi) op s j k (at-nodesOf n words i hi ∙ e) (normals .0) (normals .1)) h
-
 -- A LEAF IS ITSELF
 
 module _ {words : List ℕ} {n : ℕ} (live : Live words n) (i : ℕ) (hi : i < n) where
-  at-leaf : i < length (nodesOf n words)
-  at-leaf = omega (arith, length-nodesOf n words)
-
   here : simplified (nodesOf n words) i ≡ out (nodesOf n words) i → Ended words words n (simplified (nodesOf n words) i) (Step.Done i n)
   here e = rw e (ended-here live i hi)
 
   pub ended-top : nodeAt words i ≡ Node.Top → Ended words words n (simplified (nodesOf n words) i) (Step.Done i n)
-  ended-top e = here (leaf-top (nodesOf n words) (live-ordered live) i at-leaf (at-nodesOf n words i hi ∙ e))
+  ended-top e = here (leaf-top (nodesOf n words) (live-ordered live) i (in-arena live i hi) (at-nodesOf n words i hi ∙ e))
 
   pub ended-entry : {s sp o : ℕ} → nodeAt words i ≡ Node.Entry s sp o → Ended words words n (simplified (nodesOf n words) i) (Step.Done i n)
-  ended-entry e = here (leaf-entry (nodesOf n words) (live-ordered live) i at-leaf (at-nodesOf n words i hi ∙ e))
+  ended-entry e = here (leaf-entry (nodesOf n words) (live-ordered live) i (in-arena live i hi) (at-nodesOf n words i hi ∙ e))
 
   pub ended-const : {s v : ℕ} → nodeAt words i ≡ Node.Const s v → Ended words words n (simplified (nodesOf n words) i) (Step.Done i n)
-  ended-const e = here (leaf-const (nodesOf n words) (live-ordered live) i at-leaf (at-nodesOf n words i hi ∙ e))
+  ended-const e = here (leaf-const (nodesOf n words) (live-ordered live) i (in-arena live i hi) (at-nodesOf n words i hi ∙ e))
 
   pub ended-bind : {s d : ℕ} → nodeAt words i ≡ Node.Bind s d → Ended words words n (simplified (nodesOf n words) i) (Step.Done i n)
-  ended-bind e = here (leaf-bind (nodesOf n words) (live-ordered live) i at-leaf (at-nodesOf n words i hi ∙ e))
+  ended-bind e = here (leaf-bind (nodesOf n words) (live-ordered live) i (in-arena live i hi) (at-nodesOf n words i hi ∙ e))
+
+  pub ended-leaf : (node : Node) → nodeAt words i ≡ node → nodeIsLeaf node ≡ true → Ended words words n (simplified (nodesOf n words) i) (Step.Done i n)
+  ended-leaf Node.Top e l = ended-top e
+  ended-leaf (Node.Entry s sp o) e l = ended-entry e
+  ended-leaf (Node.Const s v) e l = ended-const e
+  ended-leaf (Node.Bind s d) e l = ended-bind e
+  ended-leaf (Node.Unary op s j) e l = absurd (not-both l refl)
+  ended-leaf (Node.Binary op s j k) e l = absurd (not-both l refl)
+
+  -- a tree that is simplified already gives way to itself, and appends nothing
+  ended-normal : Normal (treeOf n words i) → Ended words words n (simplified (nodesOf n words) i) (Step.Done i n)
+  ended-normal p = here (run-on-normal (nodesOf n words) (live-ordered live) (weight (treeOf n words i)) i (in-arena live i hi) p)
+
+  pub child-is-itself : (ready leaf : Bool) → Ready ready (treeOf n words i) → leaf ≡ nodeIsLeaf (nodeAt words i) → (ready || leaf) ≡ true →
+      Ended words words n (simplified (nodesOf n words) i) (Step.Done i n)
+  child-is-itself true leaf p e t = ended-normal p
+  child-is-itself false leaf p e t = ended-leaf (nodeAt words i) refl (sym e ∙ t)
+
+-- the children of a node whose visit may rely on them
+module _ {words : List ℕ} {n : ℕ} (live : Live words n) (i : ℕ) (hi : i < n) where
+  pub one-child-ready : (op : Un) (s j : ℕ) → nodeAt words i ≡ Node.Unary op s j → (ready : Bool) → Prepared ready (treeOf n words i) → Ready ready (treeOf n words j)
+  one-child-ready op s j e true p = rw (tree-of-node live i hi (Node.Unary op s j) e) at p
+  one-child-ready op s j e false p = tt
+
+  module _ (op : Bin) (s j k : ℕ) (e : nodeAt words i ≡ Node.Binary op s j k) where
+    pub left-child-ready : (ready : Bool) → Prepared ready (treeOf n words i) → Ready ready (treeOf n words j)
+    left-child-ready true p = (rw (tree-of-node live i hi (Node.Binary op s j k) e) at p) .0
+    left-child-ready false p = tt
+
+    pub right-child-ready : (mid : List ℕ) (a m : ℕ) → Ended words mid n (simplified (nodesOf n words) j) (Step.Done a m) → (ready : Bool) → Prepared ready (treeOf n words i) →
+        Ready ready (treeOf m mid k)
+    right-child-ready mid a m h true p =
+        rw (right-same live i hi op s j k e mid a m h) ((rw (tree-of-node live i hi (Node.Binary op s j k) e) at p) .1)
+    right-child-ready mid a m h false p = tt

@@ -16,17 +16,28 @@ use Rattle.format.specs.declared.ChildSize.{ChildSize}
 use Rattle.format.specs.declared.Node.{Node}
 use Rattle.format.specs.declared.Un.{Un}
 use Rattle.rules.specs.Rules.{binAct, unAct}
-use Rattle.rules.specs.Run.{makeConst, near}
+use Rattle.rules.specs.Run.{Out, append, keptAs, makeConst, near}
 use Rattle.rules.specs.declared.Act.{Act}
 use Rattle.rules.specs.declared.Near.{Near}
+use Rattle.run.specs.declared.settle.Op.{Op}
 use Rattle.theory.specs.Simulation.{near-stands}
 use Rattle.theory.specs.Sizes.{size-bounds, bin-isSize, un-isSize}
 use Rattle.theory.specs.TreeRun.{nearTree, constTree}
 use Rattle.theory.specs.Values.{ActSized, bin-act-sized, un-act-sized}
+use Rattle.theory.specs.Visits.{carried}
 use Rattle.tree.specs.Arena.{build, nodesOf, treeAt, Ordered}
 use Rattle.tree.specs.ArenaLaws.{length-nodesOf, length-appended, appended-extends, tree-stays, tree-appended}
 use Rattle.tree.specs.Form.{isSize, Sized, sized, unSizing, binSizing, sizeSeen}
 use Rattle.tree.specs.Tree.{Tree, unary, binary}
+
+-- an operator's node over a, or over a and b
+abbrev pub overOf : Op → (s a b : ℕ) → Node
+overOf (Op.One op) s a b = Node.Unary op s a
+overOf (Op.Two op) s a b = Node.Binary op s a b
+
+-- what an action makes of the arena, short of simplifying again
+abbrev pub settled : Act → (kept : Bool) → (i : ℕ) → Op → ℕ → List Node → (a b : ℕ) → Out
+settled act kept i op s arena a b = carried act (keptAs kept i (overOf op s a b) arena) (append (overOf op s b a) arena) s arena a b
 
 abbrev pub Settles : List Node → Act → (own swapped : Node) → (s a b : ℕ) → Type 0
 Settles arena Act.Keep own swapped s a b = New arena own

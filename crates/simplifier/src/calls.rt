@@ -32,7 +32,7 @@ fn rewrite(words: &mut [u64], count: usize, root: usize) -> Simplified
     ensures answer { λ r. ⌜ r ≡ ended (fits (now (words .entry)) (ranOn (now (words .entry)) count root)) (ranOn (now (words .entry)) count root) ⌝ }
     ensures left { λ r. ⌜ now (words .exit) ≡ wordsLeft r (now (words .entry)) count (ranOn (now (words .entry)) count root) ⌝ }
 {
-    match run::dispatch(words, count, root) {
+    match run::dispatch::dispatch(words, count, root) {
         Step::Done(index, n) => Simplified::Done(index, n),
         Step::NoRoom => {
             let end = NODE_WORDS * arena::capacity(words.len());

@@ -16,7 +16,7 @@ use Rattle.rules.specs.declared.Act.{Act}
 use Rattle.theory.specs.Falls.{sub-le, Falls, unary-falls, binary-falls}
 use Rattle.theory.specs.Normal.{Normal}
 use Rattle.theory.specs.Reduced.{near-normal, reduced-nodes}
-use Rattle.theory.specs.Simulation.{Stands, Simulates, onward, run-on-normal, appended-stands, acted-stands, kept-unary, kept-binary, unary-stands, binary-stands, simplified-stands, simplified-eq}
+use Rattle.theory.specs.Simulation.{Stands, Simulates, onward, appended-stands, acted-stands, kept-unary, kept-binary, unary-stands, binary-stands, simplified-stands, simplified-eq}
 use Rattle.theory.specs.TreeRun.{actedTree, unaryTree, binaryTree, reduced}
 use Rattle.tree.specs.Arena.{at, treeAt, Ordered}
 use Rattle.tree.specs.ArenaLaws.{Extends, extends-refl, extends-trans, tree-stays, tree-eq}
@@ -115,12 +115,6 @@ module _ (arena : List Node) (w : Ordered arena) (i : ℕ) (b : i < length arena
         simplified-eq arena w i b ∙ ap (visit simplified arena i) e
         ∙ ap₂ (λ (z : List Node) (a : ℕ). unaryRun simplified (isTop (treeAt z a)) i op s j z a) (sym p) (sym q)
 
-    -- a visit of a child that is simplified already appends nothing and ends at the child
-    pub one-over-normal : Normal (treeAt arena j) → simplified arena i ≡ unaryRun simplified (isTop (treeAt arena j)) i op s j arena j
-    one-over-normal p =
-        let x = sym (run-on-normal arena w (weight (treeAt arena j)) j hj p) in
-        one-eq arena j (ap (λ (o : Out). o .arena) x) (ap (λ (o : Out). o .index) x)
-
     one-stands : (c : Bool) → Stands (simplified arena j .arena) (unaryTree reduced c op s (treeAt (simplified arena j .arena) (simplified arena j .index)))
         (unaryRun simplified c i op s j (simplified arena j .arena) (simplified arena j .index))
     one-stands c =
@@ -166,14 +160,6 @@ module _ (arena : List Node) (w : Ordered arena) (i : ℕ) (b : i < length arena
         simplified-eq arena w i b ∙ ap (visit simplified arena i) e
         ∙ ap₂ (λ (y : List Node) (a : ℕ). binaryRun simplified (isTop (treeAt (simplified y k .arena) a) || isTop (treeAt (simplified y k .arena) (simplified y k .index))) i op s j k (simplified y k .arena) a (simplified y k .index)) (sym p) (sym q)
         ∙ ap₂ (λ (z : List Node) (c : ℕ). binaryRun simplified (isTop (treeAt z a) || isTop (treeAt z c)) i op s j k z a c) (sym p′) (sym q′)
-
-    pub two-over-normal : Normal (treeAt arena j) → Normal (treeAt arena k) →
-        simplified arena i ≡ binaryRun simplified (isTop (treeAt arena j) || isTop (treeAt arena k)) i op s j k arena j k
-    two-over-normal p q =
-        let z = two-below .1 in
-        let x = sym (run-on-normal arena w (weight (treeAt arena j)) j left-inside p) in
-        let y = sym (run-on-normal arena w (weight (treeAt arena k)) k (omega arith) q) in
-        two-eq arena arena j k (ap (λ (o : Out). o .arena) x) (ap (λ (o : Out). o .index) x) (ap (λ (o : Out). o .arena) y) (ap (λ (o : Out). o .index) y)
 
     two-stands : (c : Bool) → Stands (simplified (simplified arena j .arena) k .arena)
         (binaryTree reduced c op s (treeAt (simplified (simplified arena j .arena) k .arena) (simplified arena j .index)) (treeAt (simplified (simplified arena j .arena) k .arena) (simplified (simplified arena j .arena) k .index)))

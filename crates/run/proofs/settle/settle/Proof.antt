@@ -1,8 +1,8 @@
 -- The writer carries an action out: each node that it makes is appended. Assumes nothing.
 use borrow.Author.Needs.{needs}
 use Rattle.run.specs.Chains.{ended-here, redo-unfinished, redo-ended}
-use Rattle.run.proofs.settle.Statement.{statement}
-use Rattle.run.proofs.settle.Tie as tie
+use Rattle.run.proofs.settle.settle.Statement.{statement}
+use Rattle.run.proofs.settle.settle.Tie as tie
 
 enum-told : tie.Need-enum-told
 enum-told c = search needs
@@ -10,14 +10,20 @@ enum-told c = search needs
 returns : tie.Need-returns
 returns c = rw ((c .before .enum-told) .given .1, (c .if1) .taken) (ended-here ((c .before .before .before .before .pre) .0) ((c .before .before .before .before .args) .i) ((c .before .before .before .before .pre) .1 .0 .0))
 
+over-requires : tie.Need-over-requires
+over-requires c κs = search needs
+
 push-requires : tie.Need-push-requires
-push-requires c κs = ((c .before .before .before .before .before .pre) .0, rw ((c .before .before .enum-told) .given .1) at ((c .before .before .before .before .before .pre) .1 .1))
+push-requires c κs = ((c .before .before .before .before .before .before .pre) .0, rw ((c .over) .ensures) (rw ((c .before .before .before .enum-told) .given .1) at ((c .before .before .before .before .before .before .pre) .1 .1)))
 
 enum-told-2 : tie.Need-enum-told-2
 enum-told-2 c = search needs
 
+over-requires-2 : tie.Need-over-requires-2
+over-requires-2 c κs = search needs
+
 push-requires-2 : tie.Need-push-requires-2
-push-requires-2 c κs = ((c .before .before .before .before .pre) .0, rw ((c .before .enum-told2) .given .1) at ((c .before .before .before .before .pre) .1 .1))
+push-requires-2 c κs = ((c .before .before .before .before .before .pre) .0, rw ((c .over2) .ensures) (rw ((c .before .before .enum-told2) .given .1) at ((c .before .before .before .before .before .pre) .1 .1)))
 
 enum-known-act : tie.Need-enum-known-act
 enum-known-act c = search needs
@@ -71,13 +77,13 @@ same-length : tie.Need-same-length
 same-length c = search needs
 
 returns-2 : tie.Need-returns-2
-returns-2 c = rw ((c .before .before .before .before .before .enum-told) .given .1, (c .before .before .before .before .if1) .left) ((c .before .before .push) .ensures)
+returns-2 c = rw ((c .before .before .before .before .before .before .enum-told) .given .1, (c .before .before .before .before .before .if1) .left) (rw ((c .before .before .before .over) .ensures) at ((c .before .before .push) .ensures))
 
 same-length-2 : tie.Need-same-length-2
 same-length-2 c = search needs
 
 returns-3 : tie.Need-returns-3
-returns-3 c = rw ((c .before .before .before .before .enum-told2) .given .1) ((c .before .before .push2) .ensures)
+returns-3 c = rw ((c .before .before .before .before .before .enum-told2) .given .1) (rw ((c .before .before .before .over2) .ensures) at ((c .before .before .push2) .ensures))
 
 same-length-3 : tie.Need-same-length-3
 same-length-3 c = search needs
@@ -123,8 +129,10 @@ settle-spec =
     (tie.spec
     enum-told
     returns
+    over-requires
     push-requires
     enum-told-2
+    over-requires-2
     push-requires-2
     enum-known-act
     near-requires

@@ -1,5 +1,5 @@
 -- Dispatch, Add, Sub and SignExtend call one another. What falls is five times the weight of the tree that a call is on, twice its nodes and
--- one more for a Sub at its root, with 4 more for dispatch, 3 for a visit, 2 for that of the children and 1 for what comes after them. Assumes nothing.
+-- one more for a Sub at its root, with 5 more for a child, 4 for dispatch, 3 for a visit, 2 for that of the children and 1 for what comes after them. Assumes nothing.
 use Prim.Native.Nat.{ℕ, _+_, _*_, _<_}
 use borrow.Author.Needs.{needs}
 use borrow.Fn.Kinds.{In}
@@ -7,6 +7,7 @@ use borrow.Fn.PlainCycle.{Measures, is, falls, and}
 use mathlib.Core.Bool.{true, false, _||_}
 use mathlib.Core.Path.{ap, refl, sym, _∙_}
 use native.Mathlib.Omega.{arith}
+use Rattle.arena.proofs.is_leaf.Reads as is-leaf-reads
 use Rattle.arena.proofs.is_top.Reads as is-top-reads
 use Rattle.arena.proofs.node_at.Reads as node-at-reads
 use Rattle.arena.proofs.push.Reads as push-reads
@@ -16,46 +17,49 @@ use Rattle.format.specs.declared.Bin.{Bin}
 use Rattle.format.specs.declared.Un.{Un}
 use Rattle.rules.specs.Run.{isSub, weight}
 use Rattle.run.specs.Chains.{unary-child, unary-lighter, unary-unfinished, unary-ended, binary-children, right-lighter, binary-lighter, left-unfinished, right-unfinished, binary-ended}
-use Rattle.run.specs.Ready.{new-top, one-at, two-at, top-read, one-ready, right-child, two-ready, one-prepared, one-same-weight, one-prepared-ended, two-prepared, two-same-weight, two-prepared-ended, ended-top, ended-entry, ended-const, ended-bind}
+use Rattle.run.specs.Ready.{new-top, one-at, two-at, top-read, one-ready, right-child, two-ready, ended-top, ended-entry, ended-const, ended-bind, child-is-itself, one-child-ready, left-child-ready, right-child-ready}
 use Rattle.run.specs.Turns.{turn-add, turn-sub}
 use Rattle.run.specs.Visits.{one-again-ended, one-again-falls, one-again-over-normal, two-again-ended, two-again-falls, two-again-over-normal}
 use Rattle.tree.specs.Arena.{nodesOf}
 use Rattle.tree.specs.Tree.{unary, binary, isTop}
-use Rattle.run.proofs.+add_rule+after_one+after_two+dispatch+sext_rule+sub_rule+visit+visit_one+visit_two.Lts-add_rule as add-rule-lts
-use Rattle.run.proofs.+add_rule+after_one+after_two+dispatch+sext_rule+sub_rule+visit+visit_one+visit_two.Lts-after_one as after-one-lts
-use Rattle.run.proofs.+add_rule+after_one+after_two+dispatch+sext_rule+sub_rule+visit+visit_one+visit_two.Lts-after_two as after-two-lts
-use Rattle.run.proofs.+add_rule+after_one+after_two+dispatch+sext_rule+sub_rule+visit+visit_one+visit_two.Lts-dispatch as dispatch-lts
-use Rattle.run.proofs.+add_rule+after_one+after_two+dispatch+sext_rule+sub_rule+visit+visit_one+visit_two.Lts-sext_rule as sext-rule-lts
-use Rattle.run.proofs.+add_rule+after_one+after_two+dispatch+sext_rule+sub_rule+visit+visit_one+visit_two.Lts-sub_rule as sub-rule-lts
-use Rattle.run.proofs.+add_rule+after_one+after_two+dispatch+sext_rule+sub_rule+visit+visit_one+visit_two.Lts-visit as visit-lts
-use Rattle.run.proofs.+add_rule+after_one+after_two+dispatch+sext_rule+sub_rule+visit+visit_one+visit_two.Lts-visit_one as visit-one-lts
-use Rattle.run.proofs.+add_rule+after_one+after_two+dispatch+sext_rule+sub_rule+visit+visit_one+visit_two.Lts-visit_two as visit-two-lts
-use Rattle.run.proofs.+add_rule+after_one+after_two+dispatch+sext_rule+sub_rule+visit+visit_one+visit_two.Tie.{close}
-use Rattle.run.proofs.+add_rule+after_one+after_two+dispatch+sext_rule+sub_rule+visit+visit_one+visit_two.{statement}
-use Rattle.run.proofs.add_rule.Kinds as add-rule-kinds
-use Rattle.run.proofs.add_rule.Reads as add-rule
-use Rattle.run.proofs.after_one.Kinds as after-one-kinds
-use Rattle.run.proofs.after_one.Reads as after-one
-use Rattle.run.proofs.after_two.Kinds as after-two-kinds
-use Rattle.run.proofs.after_two.Reads as after-two
-use Rattle.run.proofs.anew.Reads as anew-reads
-use Rattle.run.proofs.dispatch.Kinds as dispatch-kinds
-use Rattle.run.proofs.dispatch.Reads as dispatch
-use Rattle.run.proofs.one_rule.Reads as one-rule-reads
-use Rattle.run.proofs.plain_one.Reads as plain-one-reads
-use Rattle.run.proofs.plain_two.Reads as plain-two-reads
-use Rattle.run.proofs.sext_rule.Kinds as sext-rule-kinds
-use Rattle.run.proofs.sext_rule.Reads as sext-rule
-use Rattle.run.proofs.sub_rule.Kinds as sub-rule-kinds
-use Rattle.run.proofs.sub_rule.Reads as sub-rule
-use Rattle.run.proofs.turn_of.Reads as turn-of-reads
-use Rattle.run.proofs.two_rule.Reads as two-rule-reads
-use Rattle.run.proofs.visit.Kinds as visit-kinds
-use Rattle.run.proofs.visit.Reads as visit
-use Rattle.run.proofs.visit_one.Kinds as visit-one-kinds
-use Rattle.run.proofs.visit_one.Reads as visit-one
-use Rattle.run.proofs.visit_two.Kinds as visit-two-kinds
-use Rattle.run.proofs.visit_two.Reads as visit-two
+use Rattle.run.proofs.+add-add_rule+dispatch-after_one+dispatch-after_two+dispatch-child+dispatch-dispatch+dispatch-visit+dispatch-visit_one+dispatch-visit_two+sign_extend-sext_rule+sub-sub_rule.Lts-add-add_rule as add-rule-lts
+use Rattle.run.proofs.+add-add_rule+dispatch-after_one+dispatch-after_two+dispatch-child+dispatch-dispatch+dispatch-visit+dispatch-visit_one+dispatch-visit_two+sign_extend-sext_rule+sub-sub_rule.Lts-dispatch-after_one as after-one-lts
+use Rattle.run.proofs.+add-add_rule+dispatch-after_one+dispatch-after_two+dispatch-child+dispatch-dispatch+dispatch-visit+dispatch-visit_one+dispatch-visit_two+sign_extend-sext_rule+sub-sub_rule.Lts-dispatch-after_two as after-two-lts
+use Rattle.run.proofs.+add-add_rule+dispatch-after_one+dispatch-after_two+dispatch-child+dispatch-dispatch+dispatch-visit+dispatch-visit_one+dispatch-visit_two+sign_extend-sext_rule+sub-sub_rule.Lts-dispatch-child as child-lts
+use Rattle.run.proofs.+add-add_rule+dispatch-after_one+dispatch-after_two+dispatch-child+dispatch-dispatch+dispatch-visit+dispatch-visit_one+dispatch-visit_two+sign_extend-sext_rule+sub-sub_rule.Lts-dispatch-dispatch as dispatch-lts
+use Rattle.run.proofs.+add-add_rule+dispatch-after_one+dispatch-after_two+dispatch-child+dispatch-dispatch+dispatch-visit+dispatch-visit_one+dispatch-visit_two+sign_extend-sext_rule+sub-sub_rule.Lts-dispatch-visit as visit-lts
+use Rattle.run.proofs.+add-add_rule+dispatch-after_one+dispatch-after_two+dispatch-child+dispatch-dispatch+dispatch-visit+dispatch-visit_one+dispatch-visit_two+sign_extend-sext_rule+sub-sub_rule.Lts-dispatch-visit_one as visit-one-lts
+use Rattle.run.proofs.+add-add_rule+dispatch-after_one+dispatch-after_two+dispatch-child+dispatch-dispatch+dispatch-visit+dispatch-visit_one+dispatch-visit_two+sign_extend-sext_rule+sub-sub_rule.Lts-dispatch-visit_two as visit-two-lts
+use Rattle.run.proofs.+add-add_rule+dispatch-after_one+dispatch-after_two+dispatch-child+dispatch-dispatch+dispatch-visit+dispatch-visit_one+dispatch-visit_two+sign_extend-sext_rule+sub-sub_rule.Lts-sign_extend-sext_rule as sext-rule-lts
+use Rattle.run.proofs.+add-add_rule+dispatch-after_one+dispatch-after_two+dispatch-child+dispatch-dispatch+dispatch-visit+dispatch-visit_one+dispatch-visit_two+sign_extend-sext_rule+sub-sub_rule.Lts-sub-sub_rule as sub-rule-lts
+use Rattle.run.proofs.+add-add_rule+dispatch-after_one+dispatch-after_two+dispatch-child+dispatch-dispatch+dispatch-visit+dispatch-visit_one+dispatch-visit_two+sign_extend-sext_rule+sub-sub_rule.Tie.{close}
+use Rattle.run.proofs.+add-add_rule+dispatch-after_one+dispatch-after_two+dispatch-child+dispatch-dispatch+dispatch-visit+dispatch-visit_one+dispatch-visit_two+sign_extend-sext_rule+sub-sub_rule.{statement}
+use Rattle.run.proofs.add.add_rule.Kinds as add-rule-kinds
+use Rattle.run.proofs.add.add_rule.Reads as add-rule
+use Rattle.run.proofs.dispatch.after_one.Kinds as after-one-kinds
+use Rattle.run.proofs.dispatch.after_one.Reads as after-one
+use Rattle.run.proofs.dispatch.after_two.Kinds as after-two-kinds
+use Rattle.run.proofs.dispatch.after_two.Reads as after-two
+use Rattle.run.proofs.dispatch.child.Kinds as child-kinds
+use Rattle.run.proofs.dispatch.child.Reads as child
+use Rattle.run.proofs.dispatch.dispatch.Kinds as dispatch-kinds
+use Rattle.run.proofs.dispatch.dispatch.Reads as dispatch
+use Rattle.run.proofs.dispatch.visit.Kinds as visit-kinds
+use Rattle.run.proofs.dispatch.visit.Reads as visit
+use Rattle.run.proofs.dispatch.visit_one.Kinds as visit-one-kinds
+use Rattle.run.proofs.dispatch.visit_one.Reads as visit-one
+use Rattle.run.proofs.dispatch.visit_two.Kinds as visit-two-kinds
+use Rattle.run.proofs.dispatch.visit_two.Reads as visit-two
+use Rattle.run.proofs.rule.one_rule.Reads as one-rule-reads
+use Rattle.run.proofs.rule.plain_one.Reads as plain-one-reads
+use Rattle.run.proofs.rule.plain_two.Reads as plain-two-reads
+use Rattle.run.proofs.rule.two_rule.Reads as two-rule-reads
+use Rattle.run.proofs.sign_extend.sext_rule.Kinds as sext-rule-kinds
+use Rattle.run.proofs.sign_extend.sext_rule.Reads as sext-rule
+use Rattle.run.proofs.step.anew.Reads as anew-reads
+use Rattle.run.proofs.sub.sub_rule.Kinds as sub-rule-kinds
+use Rattle.run.proofs.sub.sub_rule.Reads as sub-rule
+use Rattle.run.proofs.turn.turn_of.Reads as turn-of-reads
 
 abbrev μ-add-rule : Measures 1 add-rule-kinds.ps ℕ
 μ-add-rule κs a = 5 * weight (binary Bin.Add (a .1 .1 .1 .0) (treeOf (a .1 .0) (a .0 .now) (a .1 .1 .1 .1 .1 .1 .0)) (treeOf (a .1 .0) (a .0 .now) (a .1 .1 .1 .1 .1 .1 .1 .0)))
@@ -66,14 +70,11 @@ abbrev μ-after-one : Measures 1 after-one-kinds.ps ℕ
 abbrev μ-after-two : Measures 1 after-two-kinds.ps ℕ
 μ-after-two κs a = 5 * weight (binary (a .1 .1 .1 .0) (a .1 .1 .1 .1 .0) (treeOf (a .1 .0) (a .0 .now) (a .1 .1 .1 .1 .1 .1 .1 .0)) (treeOf (a .1 .0) (a .0 .now) (a .1 .1 .1 .1 .1 .1 .1 .1 .0))) + 1
 
+abbrev μ-child : Measures 1 child-kinds.ps ℕ
+μ-child κs a = 5 * weight (treeOf (a .1 .0) (a .0 .now) (a .1 .1 .0)) + 5
+
 abbrev μ-dispatch : Measures 1 dispatch-kinds.ps ℕ
 μ-dispatch κs a = 5 * weight (treeOf (a .1 .0) (a .0 .now) (a .1 .1 .0)) + 4
-
-abbrev μ-sext-rule : Measures 1 sext-rule-kinds.ps ℕ
-μ-sext-rule κs a = 5 * weight (unary Un.SignExtend (a .1 .1 .1 .0) (treeOf (a .1 .0) (a .0 .now) (a .1 .1 .1 .1 .1 .0)))
-
-abbrev μ-sub-rule : Measures 1 sub-rule-kinds.ps ℕ
-μ-sub-rule κs a = 5 * weight (binary Bin.Sub (a .1 .1 .1 .0) (treeOf (a .1 .0) (a .0 .now) (a .1 .1 .1 .1 .1 .1 .0)) (treeOf (a .1 .0) (a .0 .now) (a .1 .1 .1 .1 .1 .1 .1 .0)))
 
 abbrev μ-visit : Measures 1 visit-kinds.ps ℕ
 μ-visit κs a = 5 * weight (treeOf (a .1 .0) (a .0 .now) (a .1 .1 .0)) + 3
@@ -84,68 +85,71 @@ abbrev μ-visit-one : Measures 1 visit-one-kinds.ps ℕ
 abbrev μ-visit-two : Measures 1 visit-two-kinds.ps ℕ
 μ-visit-two κs a = 5 * weight (treeOf (a .1 .0) (a .0 .now) (a .1 .1 .0)) + 2
 
+abbrev μ-sext-rule : Measures 1 sext-rule-kinds.ps ℕ
+μ-sext-rule κs a = 5 * weight (unary Un.SignExtend (a .1 .1 .1 .0) (treeOf (a .1 .0) (a .0 .now) (a .1 .1 .1 .1 .1 .0)))
+
+abbrev μ-sub-rule : Measures 1 sub-rule-kinds.ps ℕ
+μ-sub-rule κs a = 5 * weight (binary Bin.Sub (a .1 .1 .1 .0) (treeOf (a .1 .0) (a .0 .now) (a .1 .1 .1 .1 .1 .1 .0)) (treeOf (a .1 .0) (a .0 .now) (a .1 .1 .1 .1 .1 .1 .1 .0)))
+
 abbrev add-rule-at : ℕ → In 1 add-rule-kinds.ps
 add-rule-at t = and 1 add-rule-kinds.ps (is 1 add-rule-kinds.ps μ-add-rule t) add-rule.Pre
 
 abbrev add-rule-below : ℕ → In 1 add-rule-kinds.ps
-add-rule-below t =
-    and 1 add-rule-kinds.ps (falls 1 add-rule-kinds.ps _<_ μ-add-rule t) add-rule.Pre
+add-rule-below t = and 1 add-rule-kinds.ps (falls 1 add-rule-kinds.ps _<_ μ-add-rule t) add-rule.Pre
 
 abbrev after-one-at : ℕ → In 1 after-one-kinds.ps
 after-one-at t = and 1 after-one-kinds.ps (is 1 after-one-kinds.ps μ-after-one t) after-one.Pre
 
 abbrev after-one-below : ℕ → In 1 after-one-kinds.ps
-after-one-below t =
-    and 1 after-one-kinds.ps (falls 1 after-one-kinds.ps _<_ μ-after-one t) after-one.Pre
+after-one-below t = and 1 after-one-kinds.ps (falls 1 after-one-kinds.ps _<_ μ-after-one t) after-one.Pre
 
 abbrev after-two-at : ℕ → In 1 after-two-kinds.ps
 after-two-at t = and 1 after-two-kinds.ps (is 1 after-two-kinds.ps μ-after-two t) after-two.Pre
 
 abbrev after-two-below : ℕ → In 1 after-two-kinds.ps
-after-two-below t =
-    and 1 after-two-kinds.ps (falls 1 after-two-kinds.ps _<_ μ-after-two t) after-two.Pre
+after-two-below t = and 1 after-two-kinds.ps (falls 1 after-two-kinds.ps _<_ μ-after-two t) after-two.Pre
+
+abbrev child-at : ℕ → In 1 child-kinds.ps
+child-at t = and 1 child-kinds.ps (is 1 child-kinds.ps μ-child t) child.Pre
+
+abbrev child-below : ℕ → In 1 child-kinds.ps
+child-below t = and 1 child-kinds.ps (falls 1 child-kinds.ps _<_ μ-child t) child.Pre
 
 abbrev dispatch-at : ℕ → In 1 dispatch-kinds.ps
 dispatch-at t = and 1 dispatch-kinds.ps (is 1 dispatch-kinds.ps μ-dispatch t) dispatch.Pre
 
 abbrev dispatch-below : ℕ → In 1 dispatch-kinds.ps
-dispatch-below t =
-    and 1 dispatch-kinds.ps (falls 1 dispatch-kinds.ps _<_ μ-dispatch t) dispatch.Pre
-
-abbrev sext-rule-at : ℕ → In 1 sext-rule-kinds.ps
-sext-rule-at t = and 1 sext-rule-kinds.ps (is 1 sext-rule-kinds.ps μ-sext-rule t) sext-rule.Pre
-
-abbrev sext-rule-below : ℕ → In 1 sext-rule-kinds.ps
-sext-rule-below t =
-    and 1 sext-rule-kinds.ps (falls 1 sext-rule-kinds.ps _<_ μ-sext-rule t) sext-rule.Pre
-
-abbrev sub-rule-at : ℕ → In 1 sub-rule-kinds.ps
-sub-rule-at t = and 1 sub-rule-kinds.ps (is 1 sub-rule-kinds.ps μ-sub-rule t) sub-rule.Pre
-
-abbrev sub-rule-below : ℕ → In 1 sub-rule-kinds.ps
-sub-rule-below t =
-    and 1 sub-rule-kinds.ps (falls 1 sub-rule-kinds.ps _<_ μ-sub-rule t) sub-rule.Pre
+dispatch-below t = and 1 dispatch-kinds.ps (falls 1 dispatch-kinds.ps _<_ μ-dispatch t) dispatch.Pre
 
 abbrev visit-at : ℕ → In 1 visit-kinds.ps
 visit-at t = and 1 visit-kinds.ps (is 1 visit-kinds.ps μ-visit t) visit.Pre
 
 abbrev visit-below : ℕ → In 1 visit-kinds.ps
-visit-below t =
-    and 1 visit-kinds.ps (falls 1 visit-kinds.ps _<_ μ-visit t) visit.Pre
+visit-below t = and 1 visit-kinds.ps (falls 1 visit-kinds.ps _<_ μ-visit t) visit.Pre
 
 abbrev visit-one-at : ℕ → In 1 visit-one-kinds.ps
 visit-one-at t = and 1 visit-one-kinds.ps (is 1 visit-one-kinds.ps μ-visit-one t) visit-one.Pre
 
 abbrev visit-one-below : ℕ → In 1 visit-one-kinds.ps
-visit-one-below t =
-    and 1 visit-one-kinds.ps (falls 1 visit-one-kinds.ps _<_ μ-visit-one t) visit-one.Pre
+visit-one-below t = and 1 visit-one-kinds.ps (falls 1 visit-one-kinds.ps _<_ μ-visit-one t) visit-one.Pre
 
 abbrev visit-two-at : ℕ → In 1 visit-two-kinds.ps
 visit-two-at t = and 1 visit-two-kinds.ps (is 1 visit-two-kinds.ps μ-visit-two t) visit-two.Pre
 
 abbrev visit-two-below : ℕ → In 1 visit-two-kinds.ps
-visit-two-below t =
-    and 1 visit-two-kinds.ps (falls 1 visit-two-kinds.ps _<_ μ-visit-two t) visit-two.Pre
+visit-two-below t = and 1 visit-two-kinds.ps (falls 1 visit-two-kinds.ps _<_ μ-visit-two t) visit-two.Pre
+
+abbrev sext-rule-at : ℕ → In 1 sext-rule-kinds.ps
+sext-rule-at t = and 1 sext-rule-kinds.ps (is 1 sext-rule-kinds.ps μ-sext-rule t) sext-rule.Pre
+
+abbrev sext-rule-below : ℕ → In 1 sext-rule-kinds.ps
+sext-rule-below t = and 1 sext-rule-kinds.ps (falls 1 sext-rule-kinds.ps _<_ μ-sext-rule t) sext-rule.Pre
+
+abbrev sub-rule-at : ℕ → In 1 sub-rule-kinds.ps
+sub-rule-at t = and 1 sub-rule-kinds.ps (is 1 sub-rule-kinds.ps μ-sub-rule t) sub-rule.Pre
+
+abbrev sub-rule-below : ℕ → In 1 sub-rule-kinds.ps
+sub-rule-below t = and 1 sub-rule-kinds.ps (falls 1 sub-rule-kinds.ps _<_ μ-sub-rule t) sub-rule.Pre
 
 abbrev add-rule-claims : ℕ → add-rule-lts.Claims
 add-rule-claims t = (two-rule-reads.Asked, two-rule-reads.Learnt, visit-below t, visit.Post, anew-reads.Asked, anew-reads.Learnt)
@@ -156,23 +160,26 @@ after-one-claims t = (node-at-reads.Asked, node-at-reads.Learnt, is-top-reads.As
 abbrev after-two-claims : ℕ → after-two-lts.Claims
 after-two-claims t = (node-at-reads.Asked, node-at-reads.Learnt, is-top-reads.Asked, is-top-reads.Learnt, push-reads.Asked, push-reads.Learnt, turn-of-reads.Asked, turn-of-reads.Learnt, add-rule-below t, add-rule.Post, sub-rule-below t, sub-rule.Post, plain-two-reads.Asked, plain-two-reads.Learnt)
 
+abbrev child-claims : ℕ → child-lts.Claims
+child-claims t = (is-leaf-reads.Asked, is-leaf-reads.Learnt, dispatch-below t, dispatch.Post)
+
 abbrev dispatch-claims : ℕ → dispatch-lts.Claims
 dispatch-claims t = (visit-below t, visit.Post)
+
+abbrev visit-claims : ℕ → visit-lts.Claims
+visit-claims t = (node-at-reads.Asked, node-at-reads.Learnt, visit-one-below t, visit-one.Post, anew-reads.Asked, anew-reads.Learnt, visit-two-below t, visit-two.Post)
+
+abbrev visit-one-claims : ℕ → visit-one-lts.Claims
+visit-one-claims t = (child-below t, child.Post, after-one-below t, after-one.Post)
+
+abbrev visit-two-claims : ℕ → visit-two-lts.Claims
+visit-two-claims t = (child-below t, child.Post, after-two-below t, after-two.Post)
 
 abbrev sext-rule-claims : ℕ → sext-rule-lts.Claims
 sext-rule-claims t = (one-rule-reads.Asked, one-rule-reads.Learnt, visit-below t, visit.Post, anew-reads.Asked, anew-reads.Learnt)
 
 abbrev sub-rule-claims : ℕ → sub-rule-lts.Claims
 sub-rule-claims t = (two-rule-reads.Asked, two-rule-reads.Learnt, visit-below t, visit.Post, anew-reads.Asked, anew-reads.Learnt)
-
-abbrev visit-claims : ℕ → visit-lts.Claims
-visit-claims t = (node-at-reads.Asked, node-at-reads.Learnt, after-one-below t, after-one.Post, anew-reads.Asked, anew-reads.Learnt, visit-one-below t, visit-one.Post, after-two-below t, after-two.Post, visit-two-below t, visit-two.Post)
-
-abbrev visit-one-claims : ℕ → visit-one-lts.Claims
-visit-one-claims t = (dispatch-below t, dispatch.Post, after-one-below t, after-one.Post)
-
-abbrev visit-two-claims : ℕ → visit-two-lts.Claims
-visit-two-claims t = (dispatch-below t, dispatch.Post, after-two-below t, after-two.Post)
 
 add-rule-two-rule-requires : (t : ℕ) → add-rule-lts.Need-two-rule-requires (add-rule-claims t) (add-rule-at t) add-rule.Post
 add-rule-two-rule-requires t c κs = ((c .before .before .pre) .1 .0, (c .before .before .pre) .1 .1)
@@ -345,6 +352,27 @@ after-two-returns-5 : (t : ℕ) → after-two-lts.Need-returns-5 (after-two-clai
 after-two-returns-5 t c =
     rw (top-read ((c .before .before .before .before .before .before .before .before .before .before .before .before .before .before .before .before .pre) .1 .0) ((c .before .before .before .before .before .before .before .before .before .before .before .before .before .before .before .before .args) .a) ((c .before .before .before .before .before .before .before .before .before .before .before .before .before .before .before .before .pre) .1 .1 .left-below) ((c .before .before .before .before .before .before .before .before .before .before .before .before .before .node-at) .result) ((c .before .before .before .before .before .before .before .before .before .before .before .before .is-top) .result) false ((c .before .before .before .before .before .before .before .before .before .before .before .before .before .node-at) .ensures) ((c .before .before .before .before .before .before .before .before .before .before .before .before .is-top) .ensures) ((c .before .before .before .before .before .before .before .before .before .before .before .if1) .left), top-read ((c .before .before .before .before .before .before .before .before .before .before .before .before .before .before .before .before .pre) .1 .0) ((c .before .before .before .before .before .before .before .before .before .before .before .before .before .before .before .before .args) .b) ((c .before .before .before .before .before .before .before .before .before .before .before .before .before .before .before .before .pre) .1 .1 .right-below) ((c .before .before .before .before .before .before .before .before .before .node-at2) .result) ((c .before .before .before .before .before .before .before .before .is-top2) .result) false ((c .before .before .before .before .before .before .before .before .before .node-at2) .ensures) ((c .before .before .before .before .before .before .before .before .is-top2) .ensures) ((c .before .before .before .before .before .before .before .if2) .left)) ((c .before .before .plain-two) .ensures)
 
+child-is-leaf-requires : (t : ℕ) → child-lts.Need-is-leaf-requires (child-claims t) (child-at t) child.Post
+child-is-leaf-requires t c κs = ((c .before .before .pre) .1 .0, (c .before .before .pre) .1 .1 .0)
+
+child-same-length : (t : ℕ) → child-lts.Need-same-length (child-claims t) (child-at t) child.Post
+child-same-length t c = search needs
+
+child-returns : (t : ℕ) → child-lts.Need-returns (child-claims t) (child-at t) child.Post
+child-returns t c =
+    child-is-itself ((c .before .before .before .before .pre) .1 .0) ((c .before .before .before .before .args) .j) ((c .before .before .before .before .pre) .1 .1 .0) ((c .before .before .before .before .args) .ready) ((c .before .is-leaf) .result) ((c .before .before .before .before .pre) .1 .1 .1) ((c .before .is-leaf) .ensures) ((c .if1) .taken)
+
+child-dispatch-requires : (t : ℕ) → child-lts.Need-dispatch-requires (child-claims t) (child-at t) child.Post
+child-dispatch-requires t c κs =
+    let own = (c .before .before .before .before .before .pre) .0 in
+    (omega arith, ((c .before .before .before .before .before .pre) .1 .0, (c .before .before .before .before .before .pre) .1 .1 .0))
+
+child-same-length-2 : (t : ℕ) → child-lts.Need-same-length-2 (child-claims t) (child-at t) child.Post
+child-same-length-2 t c = search needs
+
+child-returns-2 : (t : ℕ) → child-lts.Need-returns-2 (child-claims t) (child-at t) child.Post
+child-returns-2 t c = (c .before .before .dispatch) .ensures
+
 dispatch-visit-requires : (t : ℕ) → dispatch-lts.Need-visit-requires (dispatch-claims t) (dispatch-at t) dispatch.Post
 dispatch-visit-requires t c κs =
     let own = (c .before .before .pre) .0 in
@@ -355,6 +383,165 @@ dispatch-same-length t c = search needs
 
 dispatch-returns : (t : ℕ) → dispatch-lts.Need-returns (dispatch-claims t) (dispatch-at t) dispatch.Post
 dispatch-returns t c = (c .before .before .visit) .ensures
+
+visit-node-at-requires : (t : ℕ) → visit-lts.Need-node-at-requires (visit-claims t) (visit-at t) visit.Post
+visit-node-at-requires t c κs = node-inside ((c .before .before .pre) .1 .0) ((c .before .before .args) .i) ((c .before .before .pre) .1 .1 .0)
+
+visit-enum-told : (t : ℕ) → visit-lts.Need-enum-told (visit-claims t) (visit-at t) visit.Post
+visit-enum-told t c = search needs
+
+visit-enum-told-2 : (t : ℕ) → visit-lts.Need-enum-told-2 (visit-claims t) (visit-at t) visit.Post
+visit-enum-told-2 t c = search needs
+
+visit-enum-told-3 : (t : ℕ) → visit-lts.Need-enum-told-3 (visit-claims t) (visit-at t) visit.Post
+visit-enum-told-3 t c = search needs
+
+visit-enum-told-4 : (t : ℕ) → visit-lts.Need-enum-told-4 (visit-claims t) (visit-at t) visit.Post
+visit-enum-told-4 t c = search needs
+
+visit-enum-known-op : (t : ℕ) → visit-lts.Need-enum-known-op (visit-claims t) (visit-at t) visit.Post
+visit-enum-known-op t c = search needs
+
+visit-visit-one-requires : (t : ℕ) → visit-lts.Need-visit-one-requires (visit-claims t) (visit-at t) visit.Post
+visit-visit-one-requires t c κs =
+    let own = (c .before .before .before .before .before .before .before .pre) .0 in
+    (omega arith, ((c .before .before .before .before .before .before .before .pre) .1 .0, ((c .before .before .before .before .before .before .before .pre) .1 .1 .0, sym ((c .before .before .before .before .node-at) .ensures) ∙ (c .before .before .op) .given .1, (c .before .before .before .before .before .before .before .pre) .1 .1 .1)))
+
+visit-anew-requires : (t : ℕ) → visit-lts.Need-anew-requires (visit-claims t) (visit-at t) visit.Post
+visit-anew-requires t c κs = search needs
+
+visit-enum-known-op-2 : (t : ℕ) → visit-lts.Need-enum-known-op-2 (visit-claims t) (visit-at t) visit.Post
+visit-enum-known-op-2 t c = search needs
+
+visit-visit-two-requires : (t : ℕ) → visit-lts.Need-visit-two-requires (visit-claims t) (visit-at t) visit.Post
+visit-visit-two-requires t c κs =
+    let own = (c .before .before .before .before .before .before .before .pre) .0 in
+    (omega arith, ((c .before .before .before .before .before .before .before .pre) .1 .0, ((c .before .before .before .before .before .before .before .pre) .1 .1 .0, sym ((c .before .before .before .before .node-at) .ensures) ∙ (c .before .before .op2) .given .1, (c .before .before .before .before .before .before .before .pre) .1 .1 .1)))
+
+visit-anew-requires-2 : (t : ℕ) → visit-lts.Need-anew-requires-2 (visit-claims t) (visit-at t) visit.Post
+visit-anew-requires-2 t c κs = search needs
+
+visit-same-length : (t : ℕ) → visit-lts.Need-same-length (visit-claims t) (visit-at t) visit.Post
+visit-same-length t c = search needs
+
+visit-returns : (t : ℕ) → visit-lts.Need-returns (visit-claims t) (visit-at t) visit.Post
+visit-returns t c = ended-top ((c .before .before .before .before .before .pre) .1 .0) ((c .before .before .before .before .before .args) .i) ((c .before .before .before .before .before .pre) .1 .1 .0) (sym ((c .before .before .node-at) .ensures) ∙ (c .enum-told) .given .1)
+
+visit-same-length-2 : (t : ℕ) → visit-lts.Need-same-length-2 (visit-claims t) (visit-at t) visit.Post
+visit-same-length-2 t c = search needs
+
+visit-returns-2 : (t : ℕ) → visit-lts.Need-returns-2 (visit-claims t) (visit-at t) visit.Post
+visit-returns-2 t c = ended-entry ((c .before .before .before .before .before .pre) .1 .0) ((c .before .before .before .before .before .args) .i) ((c .before .before .before .before .before .pre) .1 .1 .0) (sym ((c .before .before .node-at) .ensures) ∙ (c .enum-told2) .given .1)
+
+visit-same-length-3 : (t : ℕ) → visit-lts.Need-same-length-3 (visit-claims t) (visit-at t) visit.Post
+visit-same-length-3 t c = search needs
+
+visit-returns-3 : (t : ℕ) → visit-lts.Need-returns-3 (visit-claims t) (visit-at t) visit.Post
+visit-returns-3 t c = ended-const ((c .before .before .before .before .before .pre) .1 .0) ((c .before .before .before .before .before .args) .i) ((c .before .before .before .before .before .pre) .1 .1 .0) (sym ((c .before .before .node-at) .ensures) ∙ (c .enum-told3) .given .1)
+
+visit-same-length-4 : (t : ℕ) → visit-lts.Need-same-length-4 (visit-claims t) (visit-at t) visit.Post
+visit-same-length-4 t c = search needs
+
+visit-returns-4 : (t : ℕ) → visit-lts.Need-returns-4 (visit-claims t) (visit-at t) visit.Post
+visit-returns-4 t c = ended-bind ((c .before .before .before .before .before .pre) .1 .0) ((c .before .before .before .before .before .args) .i) ((c .before .before .before .before .before .pre) .1 .1 .0) (sym ((c .before .before .node-at) .ensures) ∙ (c .enum-told4) .given .1)
+
+visit-same-length-5 : (t : ℕ) → visit-lts.Need-same-length-5 (visit-claims t) (visit-at t) visit.Post
+visit-same-length-5 t c = search needs
+
+visit-returns-5 : (t : ℕ) → visit-lts.Need-returns-5 (visit-claims t) (visit-at t) visit.Post
+visit-returns-5 t c = rw ((c .anew) .ensures) ((c .before .before .before .visit-one) .ensures)
+
+visit-same-length-6 : (t : ℕ) → visit-lts.Need-same-length-6 (visit-claims t) (visit-at t) visit.Post
+visit-same-length-6 t c = search needs
+
+visit-returns-6 : (t : ℕ) → visit-lts.Need-returns-6 (visit-claims t) (visit-at t) visit.Post
+visit-returns-6 t c = rw ((c .anew2) .ensures) ((c .before .before .before .visit-two) .ensures)
+
+visit-one-child-requires : (t : ℕ) → visit-one-lts.Need-child-requires (visit-one-claims t) (visit-one-at t) visit-one.Post
+visit-one-child-requires t c κs =
+    let child = unary-child ((c .before .before .pre) .1 .0) ((c .before .before .args) .i) ((c .before .before .pre) .1 .1 .0) ((c .before .before .args) .op) ((c .before .before .args) .size) ((c .before .before .args) .j) ((c .before .before .pre) .1 .1 .1) in
+    let own = (c .before .before .pre) .0 in
+    (omega (arith, child .1), ((c .before .before .pre) .1 .0, (child .0, one-child-ready ((c .before .before .pre) .1 .0) ((c .before .before .args) .i) ((c .before .before .pre) .1 .1 .0) ((c .before .before .args) .op) ((c .before .before .args) .size) ((c .before .before .args) .j) ((c .before .before .pre) .1 .1 .1) ((c .before .before .args) .ready) ((c .before .before .pre) .1 .1 .2))))
+
+visit-one-enum-told : (t : ℕ) → visit-one-lts.Need-enum-told (visit-one-claims t) (visit-one-at t) visit-one.Post
+visit-one-enum-told t c = search needs
+
+visit-one-enum-known-a : (t : ℕ) → visit-one-lts.Need-enum-known-a (visit-one-claims t) (visit-one-at t) visit-one.Post
+visit-one-enum-known-a t c = search needs
+
+visit-one-after-one-requires : (t : ℕ) → visit-one-lts.Need-after-one-requires (visit-one-claims t) (visit-one-at t) visit-one.Post
+visit-one-after-one-requires t c κs =
+    let lighter = unary-lighter ((c .before .before .before .before .before .before .before .before .before .pre) .1 .0) ((c .before .before .before .before .before .before .before .before .before .args) .i) ((c .before .before .before .before .before .before .before .before .before .pre) .1 .1 .0) ((c .before .before .before .before .before .before .before .before .before .args) .op) ((c .before .before .before .before .before .before .before .before .before .args) .size) ((c .before .before .before .before .before .before .before .before .before .args) .j) ((c .before .before .before .before .before .before .before .before .before .pre) .1 .1 .1) ((c .before .before .before .before .before .before .child) .last .0) ((c .before .before .a) .given .0 .0) ((c .before .before .a) .given .0 .1 .0) (rw ((c .before .before .a) .given .1) at ((c .before .before .before .before .before .before .child) .ensures)) in
+    let own = (c .before .before .before .before .before .before .before .before .before .pre) .0 in
+    (omega arith, ((rw ((c .before .before .a) .given .1) at ((c .before .before .before .before .before .before .child) .ensures)) .ran .live, one-ready ((c .before .before .before .before .before .before .before .before .before .pre) .1 .0) ((c .before .before .before .before .before .before .before .before .before .args) .i) ((c .before .before .before .before .before .before .before .before .before .pre) .1 .1 .0) ((c .before .before .before .before .before .before .before .before .before .args) .op) ((c .before .before .before .before .before .before .before .before .before .args) .size) ((c .before .before .before .before .before .before .before .before .before .args) .j) ((c .before .before .before .before .before .before .before .before .before .pre) .1 .1 .1) ((c .before .before .before .before .before .before .child) .last .0) ((c .before .before .a) .given .0 .0) ((c .before .before .a) .given .0 .1 .0) (rw ((c .before .before .a) .given .1) at ((c .before .before .before .before .before .before .child) .ensures))))
+
+visit-one-same-length : (t : ℕ) → visit-one-lts.Need-same-length (visit-one-claims t) (visit-one-at t) visit-one.Post
+visit-one-same-length t c = search needs
+
+visit-one-returns : (t : ℕ) → visit-one-lts.Need-returns (visit-one-claims t) (visit-one-at t) visit-one.Post
+visit-one-returns t c =
+    unary-unfinished ((c .before .before .before .before .before .before .before .pre) .1 .0) ((c .before .before .before .before .before .before .before .args) .i) ((c .before .before .before .before .before .before .before .pre) .1 .1 .0) ((c .before .before .before .before .before .before .before .args) .op) ((c .before .before .before .before .before .before .before .args) .size) ((c .before .before .before .before .before .before .before .args) .j) ((c .before .before .before .before .before .before .before .pre) .1 .1 .1) ((c .before .before .before .before .child) .last .0) (rw ((c .enum-told) .given .1) at ((c .before .before .before .before .child) .ensures))
+
+visit-one-same-length-2 : (t : ℕ) → visit-one-lts.Need-same-length-2 (visit-one-claims t) (visit-one-at t) visit-one.Post
+visit-one-same-length-2 t c = search needs
+
+visit-one-returns-2 : (t : ℕ) → visit-one-lts.Need-returns-2 (visit-one-claims t) (visit-one-at t) visit-one.Post
+visit-one-returns-2 t c =
+    unary-ended ((c .before .before .before .before .before .before .before .before .before .before .before .before .pre) .1 .0) ((c .before .before .before .before .before .before .before .before .before .before .before .before .args) .i) ((c .before .before .before .before .before .before .before .before .before .before .before .before .pre) .1 .1 .0) ((c .before .before .before .before .before .before .before .before .before .before .before .before .args) .op) ((c .before .before .before .before .before .before .before .before .before .before .before .before .args) .size) ((c .before .before .before .before .before .before .before .before .before .before .before .before .args) .j) ((c .before .before .before .before .before .before .before .before .before .before .before .before .pre) .1 .1 .1) ((c .before .before .before .before .before .before .before .before .before .child) .last .0) ((c .before .before .before .before .before .a) .given .0 .0) ((c .before .before .before .before .before .a) .given .0 .1 .0) (rw ((c .before .before .before .before .before .a) .given .1) at ((c .before .before .before .before .before .before .before .before .before .child) .ensures)) ((c .before .before .after-one) .last .0) ((c .before .before .after-one) .result) (isTop (treeOf ((c .before .before .before .before .before .a) .given .0 .1 .0) ((c .before .before .before .before .before .before .before .before .before .child) .last .0) ((c .before .before .before .before .before .a) .given .0 .0))) refl ((c .before .before .after-one) .ensures)
+
+visit-two-child-requires : (t : ℕ) → visit-two-lts.Need-child-requires (visit-two-claims t) (visit-two-at t) visit-two.Post
+visit-two-child-requires t c κs =
+    let children = binary-children ((c .before .before .pre) .1 .0) ((c .before .before .args) .i) ((c .before .before .pre) .1 .1 .0) ((c .before .before .args) .op) ((c .before .before .args) .size) ((c .before .before .args) .j) ((c .before .before .args) .k) ((c .before .before .pre) .1 .1 .1) in
+    let own = (c .before .before .pre) .0 in
+    (omega (arith, children .2), ((c .before .before .pre) .1 .0, (children .0, left-child-ready ((c .before .before .pre) .1 .0) ((c .before .before .args) .i) ((c .before .before .pre) .1 .1 .0) ((c .before .before .args) .op) ((c .before .before .args) .size) ((c .before .before .args) .j) ((c .before .before .args) .k) ((c .before .before .pre) .1 .1 .1) ((c .before .before .args) .ready) ((c .before .before .pre) .1 .1 .2))))
+
+visit-two-enum-told : (t : ℕ) → visit-two-lts.Need-enum-told (visit-two-claims t) (visit-two-at t) visit-two.Post
+visit-two-enum-told t c = search needs
+
+visit-two-enum-known-a : (t : ℕ) → visit-two-lts.Need-enum-known-a (visit-two-claims t) (visit-two-at t) visit-two.Post
+visit-two-enum-known-a t c = search needs
+
+visit-two-child-requires-2 : (t : ℕ) → visit-two-lts.Need-child-requires-2 (visit-two-claims t) (visit-two-at t) visit-two.Post
+visit-two-child-requires-2 t c κs =
+    let left = rw ((c .before .before .a) .given .1) at ((c .before .before .before .before .before .before .child) .ensures) in
+    let lighter = right-lighter ((c .before .before .before .before .before .before .before .before .before .pre) .1 .0) ((c .before .before .before .before .before .before .before .before .before .args) .i) ((c .before .before .before .before .before .before .before .before .before .pre) .1 .1 .0) ((c .before .before .before .before .before .before .before .before .before .args) .op) ((c .before .before .before .before .before .before .before .before .before .args) .size) ((c .before .before .before .before .before .before .before .before .before .args) .j) ((c .before .before .before .before .before .before .before .before .before .args) .k) ((c .before .before .before .before .before .before .before .before .before .pre) .1 .1 .1) ((c .before .before .before .before .before .before .child) .last .0) ((c .before .before .a) .given .0 .0) ((c .before .before .a) .given .0 .1 .0) left in
+    let right = right-child ((c .before .before .before .before .before .before .before .before .before .pre) .1 .0) ((c .before .before .before .before .before .before .before .before .before .args) .i) ((c .before .before .before .before .before .before .before .before .before .pre) .1 .1 .0) ((c .before .before .before .before .before .before .before .before .before .args) .op) ((c .before .before .before .before .before .before .before .before .before .args) .size) ((c .before .before .before .before .before .before .before .before .before .args) .j) ((c .before .before .before .before .before .before .before .before .before .args) .k) ((c .before .before .before .before .before .before .before .before .before .pre) .1 .1 .1) ((c .before .before .before .before .before .before .child) .last .0) ((c .before .before .a) .given .0 .0) ((c .before .before .a) .given .0 .1 .0) left in
+    let own = (c .before .before .before .before .before .before .before .before .before .pre) .0 in
+    (omega arith, (right .0, (right .1, right-child-ready ((c .before .before .before .before .before .before .before .before .before .pre) .1 .0) ((c .before .before .before .before .before .before .before .before .before .args) .i) ((c .before .before .before .before .before .before .before .before .before .pre) .1 .1 .0) ((c .before .before .before .before .before .before .before .before .before .args) .op) ((c .before .before .before .before .before .before .before .before .before .args) .size) ((c .before .before .before .before .before .before .before .before .before .args) .j) ((c .before .before .before .before .before .before .before .before .before .args) .k) ((c .before .before .before .before .before .before .before .before .before .pre) .1 .1 .1) ((c .before .before .before .before .before .before .child) .last .0) ((c .before .before .a) .given .0 .0) ((c .before .before .a) .given .0 .1 .0) left ((c .before .before .before .before .before .before .before .before .before .args) .ready) ((c .before .before .before .before .before .before .before .before .before .pre) .1 .1 .2))))
+
+visit-two-enum-told-2 : (t : ℕ) → visit-two-lts.Need-enum-told-2 (visit-two-claims t) (visit-two-at t) visit-two.Post
+visit-two-enum-told-2 t c = search needs
+
+visit-two-enum-known-b : (t : ℕ) → visit-two-lts.Need-enum-known-b (visit-two-claims t) (visit-two-at t) visit-two.Post
+visit-two-enum-known-b t c = search needs
+
+visit-two-after-two-requires : (t : ℕ) → visit-two-lts.Need-after-two-requires (visit-two-claims t) (visit-two-at t) visit-two.Post
+visit-two-after-two-requires t c κs =
+    let lighter = binary-lighter ((c .before .before .before .before .before .before .before .before .before .before .before .before .before .before .before .before .pre) .1 .0) ((c .before .before .before .before .before .before .before .before .before .before .before .before .before .before .before .before .args) .i) ((c .before .before .before .before .before .before .before .before .before .before .before .before .before .before .before .before .pre) .1 .1 .0) ((c .before .before .before .before .before .before .before .before .before .before .before .before .before .before .before .before .args) .op) ((c .before .before .before .before .before .before .before .before .before .before .before .before .before .before .before .before .args) .size) ((c .before .before .before .before .before .before .before .before .before .before .before .before .before .before .before .before .args) .j) ((c .before .before .before .before .before .before .before .before .before .before .before .before .before .before .before .before .args) .k) ((c .before .before .before .before .before .before .before .before .before .before .before .before .before .before .before .before .pre) .1 .1 .1) ((c .before .before .before .before .before .before .before .before .before .before .before .before .before .child) .last .0) ((c .before .before .before .before .before .before .before .before .before .a) .given .0 .0) ((c .before .before .before .before .before .before .before .before .before .a) .given .0 .1 .0) (rw ((c .before .before .before .before .before .before .before .before .before .a) .given .1) at ((c .before .before .before .before .before .before .before .before .before .before .before .before .before .child) .ensures)) ((c .before .before .before .before .before .before .child2) .last .0) ((c .before .before .b) .given .0 .0) ((c .before .before .b) .given .0 .1 .0) (rw ((c .before .before .b) .given .1) at ((c .before .before .before .before .before .before .child2) .ensures)) in
+    let own = (c .before .before .before .before .before .before .before .before .before .before .before .before .before .before .before .before .pre) .0 in
+    (omega arith, ((rw ((c .before .before .b) .given .1) at ((c .before .before .before .before .before .before .child2) .ensures)) .ran .live, two-ready ((c .before .before .before .before .before .before .before .before .before .before .before .before .before .before .before .before .pre) .1 .0) ((c .before .before .before .before .before .before .before .before .before .before .before .before .before .before .before .before .args) .i) ((c .before .before .before .before .before .before .before .before .before .before .before .before .before .before .before .before .pre) .1 .1 .0) ((c .before .before .before .before .before .before .before .before .before .before .before .before .before .before .before .before .args) .op) ((c .before .before .before .before .before .before .before .before .before .before .before .before .before .before .before .before .args) .size) ((c .before .before .before .before .before .before .before .before .before .before .before .before .before .before .before .before .args) .j) ((c .before .before .before .before .before .before .before .before .before .before .before .before .before .before .before .before .args) .k) ((c .before .before .before .before .before .before .before .before .before .before .before .before .before .before .before .before .pre) .1 .1 .1) ((c .before .before .before .before .before .before .before .before .before .before .before .before .before .child) .last .0) ((c .before .before .before .before .before .before .before .before .before .a) .given .0 .0) ((c .before .before .before .before .before .before .before .before .before .a) .given .0 .1 .0) (rw ((c .before .before .before .before .before .before .before .before .before .a) .given .1) at ((c .before .before .before .before .before .before .before .before .before .before .before .before .before .child) .ensures)) ((c .before .before .before .before .before .before .child2) .last .0) ((c .before .before .b) .given .0 .0) ((c .before .before .b) .given .0 .1 .0) (rw ((c .before .before .b) .given .1) at ((c .before .before .before .before .before .before .child2) .ensures))))
+
+visit-two-same-length : (t : ℕ) → visit-two-lts.Need-same-length (visit-two-claims t) (visit-two-at t) visit-two.Post
+visit-two-same-length t c = search needs
+
+visit-two-returns : (t : ℕ) → visit-two-lts.Need-returns (visit-two-claims t) (visit-two-at t) visit-two.Post
+visit-two-returns t c =
+    left-unfinished ((c .before .before .before .before .before .before .before .pre) .1 .0) ((c .before .before .before .before .before .before .before .args) .i) ((c .before .before .before .before .before .before .before .pre) .1 .1 .0) ((c .before .before .before .before .before .before .before .args) .op) ((c .before .before .before .before .before .before .before .args) .size) ((c .before .before .before .before .before .before .before .args) .j) ((c .before .before .before .before .before .before .before .args) .k) ((c .before .before .before .before .before .before .before .pre) .1 .1 .1) ((c .before .before .before .before .child) .last .0) (rw ((c .enum-told) .given .1) at ((c .before .before .before .before .child) .ensures))
+
+visit-two-same-length-2 : (t : ℕ) → visit-two-lts.Need-same-length-2 (visit-two-claims t) (visit-two-at t) visit-two.Post
+visit-two-same-length-2 t c = search needs
+
+visit-two-returns-2 : (t : ℕ) → visit-two-lts.Need-returns-2 (visit-two-claims t) (visit-two-at t) visit-two.Post
+visit-two-returns-2 t c =
+    right-unfinished ((c .before .before .before .before .before .before .before .before .before .before .before .before .before .before .pre) .1 .0) ((c .before .before .before .before .before .before .before .before .before .before .before .before .before .before .args) .i) ((c .before .before .before .before .before .before .before .before .before .before .before .before .before .before .pre) .1 .1 .0) ((c .before .before .before .before .before .before .before .before .before .before .before .before .before .before .args) .op) ((c .before .before .before .before .before .before .before .before .before .before .before .before .before .before .args) .size) ((c .before .before .before .before .before .before .before .before .before .before .before .before .before .before .args) .j) ((c .before .before .before .before .before .before .before .before .before .before .before .before .before .before .args) .k) ((c .before .before .before .before .before .before .before .before .before .before .before .before .before .before .pre) .1 .1 .1) ((c .before .before .before .before .before .before .before .before .before .before .before .child) .last .0) ((c .before .before .before .before .before .before .before .a) .given .0 .0) ((c .before .before .before .before .before .before .before .a) .given .0 .1 .0) (rw ((c .before .before .before .before .before .before .before .a) .given .1) at ((c .before .before .before .before .before .before .before .before .before .before .before .child) .ensures)) ((c .before .before .before .before .child2) .last .0) (rw ((c .enum-told2) .given .1) at ((c .before .before .before .before .child2) .ensures))
+
+visit-two-same-length-3 : (t : ℕ) → visit-two-lts.Need-same-length-3 (visit-two-claims t) (visit-two-at t) visit-two.Post
+visit-two-same-length-3 t c = search needs
+
+visit-two-returns-3 : (t : ℕ) → visit-two-lts.Need-returns-3 (visit-two-claims t) (visit-two-at t) visit-two.Post
+visit-two-returns-3 t c =
+    binary-ended ((c .before .before .before .before .before .before .before .before .before .before .before .before .before .before .before .before .before .before .before .pre) .1 .0) ((c .before .before .before .before .before .before .before .before .before .before .before .before .before .before .before .before .before .before .before .args) .i) ((c .before .before .before .before .before .before .before .before .before .before .before .before .before .before .before .before .before .before .before .pre) .1 .1 .0) ((c .before .before .before .before .before .before .before .before .before .before .before .before .before .before .before .before .before .before .before .args) .op) ((c .before .before .before .before .before .before .before .before .before .before .before .before .before .before .before .before .before .before .before .args) .size) ((c .before .before .before .before .before .before .before .before .before .before .before .before .before .before .before .before .before .before .before .args) .j) ((c .before .before .before .before .before .before .before .before .before .before .before .before .before .before .before .before .before .before .before .args) .k) ((c .before .before .before .before .before .before .before .before .before .before .before .before .before .before .before .before .before .before .before .pre) .1 .1 .1) ((c .before .before .before .before .before .before .before .before .before .before .before .before .before .before .before .before .child) .last .0) ((c .before .before .before .before .before .before .before .before .before .before .before .before .a) .given .0 .0) ((c .before .before .before .before .before .before .before .before .before .before .before .before .a) .given .0 .1 .0) (rw ((c .before .before .before .before .before .before .before .before .before .before .before .before .a) .given .1) at ((c .before .before .before .before .before .before .before .before .before .before .before .before .before .before .before .before .child) .ensures)) ((c .before .before .before .before .before .before .before .before .before .child2) .last .0) ((c .before .before .before .before .before .b) .given .0 .0) ((c .before .before .before .before .before .b) .given .0 .1 .0) (rw ((c .before .before .before .before .before .b) .given .1) at ((c .before .before .before .before .before .before .before .before .before .child2) .ensures)) ((c .before .before .after-two) .last .0) ((c .before .before .after-two) .result)
+    (isTop (treeOf ((c .before .before .before .before .before .b) .given .0 .1 .0) ((c .before .before .before .before .before .before .before .before .before .child2) .last .0) ((c .before .before .before .before .before .before .before .before .before .before .before .before .a) .given .0 .0)) || isTop (treeOf ((c .before .before .before .before .before .b) .given .0 .1 .0) ((c .before .before .before .before .before .before .before .before .before .child2) .last .0) ((c .before .before .before .before .before .b) .given .0 .0))) refl ((c .before .before .after-two) .ensures)
 
 sext-rule-one-rule-requires : (t : ℕ) → sext-rule-lts.Need-one-rule-requires (sext-rule-claims t) (sext-rule-at t) sext-rule.Post
 sext-rule-one-rule-requires t c κs = ((c .before .before .pre) .1 .0, (c .before .before .pre) .1 .1)
@@ -442,212 +629,19 @@ sub-rule-returns-3 t c =
     (two-again-ended ((c .before .before .before .before .before .before .before .before .before .before .before .before .before .pre) .1 .0) ((c .before .before .before .before .before .before .before .before .before .before .before .before .before .pre) .1 .1) ((c .before .before .before .before .before .before .before .before .before .before .two-rule) .last .0) ((c .before .before .before .visit) .last .0) ((c .before .before .before .before .before .before .root2) .given .0 .0) ((c .before .before .before .before .before .before .root2) .given .0 .1 .0) ((c .before .before .before .visit) .result)
     (rw ((c .before .before .before .before .before .before .root2) .given .1) at ((c .before .before .before .before .before .before .before .before .before .before .two-rule) .ensures)) ((c .before .before .before .visit) .ensures))
 
-visit-node-at-requires : (t : ℕ) → visit-lts.Need-node-at-requires (visit-claims t) (visit-at t) visit.Post
-visit-node-at-requires t c κs = node-inside ((c .before .before .pre) .1 .0) ((c .before .before .args) .i) ((c .before .before .pre) .1 .1 .0)
-
-visit-enum-told : (t : ℕ) → visit-lts.Need-enum-told (visit-claims t) (visit-at t) visit.Post
-visit-enum-told t c = search needs
-
-visit-enum-told-2 : (t : ℕ) → visit-lts.Need-enum-told-2 (visit-claims t) (visit-at t) visit.Post
-visit-enum-told-2 t c = search needs
-
-visit-enum-told-3 : (t : ℕ) → visit-lts.Need-enum-told-3 (visit-claims t) (visit-at t) visit.Post
-visit-enum-told-3 t c = search needs
-
-visit-enum-told-4 : (t : ℕ) → visit-lts.Need-enum-told-4 (visit-claims t) (visit-at t) visit.Post
-visit-enum-told-4 t c = search needs
-
-visit-enum-known-op : (t : ℕ) → visit-lts.Need-enum-known-op (visit-claims t) (visit-at t) visit.Post
-visit-enum-known-op t c = search needs
-
-visit-after-one-requires : (t : ℕ) → visit-lts.Need-after-one-requires (visit-claims t) (visit-at t) visit.Post
-visit-after-one-requires t c κs =
-    let own = (c .before .before .before .before .before .before .before .before .pre) .0 in
-    let node = sym ((c .before .before .before .before .before .node-at) .ensures) ∙ (c .before .before .before .op) .given .1 in
-    let same = one-same-weight ((c .before .before .before .before .before .before .before .before .pre) .1 .0) ((c .before .before .before .before .before .before .before .before .args) .i) ((c .before .before .before .before .before .before .before .before .pre) .1 .1 .0) ((c .before .before .before .before .before .before .before .before .args) .ready) ((c .before .if1) .taken) ((c .before .before .before .before .before .before .before .before .pre) .1 .1 .1) ((c .before .before .before .op) .given .0 .0) ((c .before .before .before .op) .given .0 .1 .0) ((c .before .before .before .op) .given .0 .1 .1 .0) node in
-    (omega arith, ((c .before .before .before .before .before .before .before .before .pre) .1 .0, one-prepared ((c .before .before .before .before .before .before .before .before .pre) .1 .0) ((c .before .before .before .before .before .before .before .before .args) .i) ((c .before .before .before .before .before .before .before .before .pre) .1 .1 .0) ((c .before .before .before .before .before .before .before .before .args) .ready) ((c .before .if1) .taken) ((c .before .before .before .before .before .before .before .before .pre) .1 .1 .1) ((c .before .before .before .op) .given .0 .0) ((c .before .before .before .op) .given .0 .1 .0) ((c .before .before .before .op) .given .0 .1 .1 .0) node))
-
-visit-anew-requires : (t : ℕ) → visit-lts.Need-anew-requires (visit-claims t) (visit-at t) visit.Post
-visit-anew-requires t c κs = search needs
-
-visit-same-length : (t : ℕ) → visit-lts.Need-same-length (visit-claims t) (visit-at t) visit.Post
-visit-same-length t c = search needs
-
-visit-returns : (t : ℕ) → visit-lts.Need-returns (visit-claims t) (visit-at t) visit.Post
-visit-returns t c =
-    rw ((c .anew) .ensures)
-    (one-prepared-ended ((c .before .before .before .before .before .before .before .before .before .before .before .before .pre) .1 .0) ((c .before .before .before .before .before .before .before .before .before .before .before .before .args) .i) ((c .before .before .before .before .before .before .before .before .before .before .before .before .pre) .1 .1 .0) ((c .before .before .before .before .before .before .before .before .before .before .before .before .args) .ready) ((c .before .before .before .before .before .if1) .taken) ((c .before .before .before .before .before .before .before .before .before .before .before .before .pre) .1 .1 .1) ((c .before .before .before .before .before .before .before .op) .given .0 .0) ((c .before .before .before .before .before .before .before .op) .given .0 .1 .0) ((c .before .before .before .before .before .before .before .op) .given .0 .1 .1 .0) (sym ((c .before .before .before .before .before .before .before .before .before .node-at) .ensures) ∙ (c .before .before .before .before .before .before .before .op) .given .1) ((c .before .before .before .after-one) .last .0) ((c .before .before .before .after-one) .result) ((c .before .before .before .after-one) .ensures))
-
-visit-visit-one-requires : (t : ℕ) → visit-lts.Need-visit-one-requires (visit-claims t) (visit-at t) visit.Post
-visit-visit-one-requires t c κs =
-    let own = (c .before .before .before .before .before .before .before .before .pre) .0 in
-    (omega arith, ((c .before .before .before .before .before .before .before .before .pre) .1 .0, ((c .before .before .before .before .before .before .before .before .pre) .1 .1 .0, sym ((c .before .before .before .before .before .node-at) .ensures) ∙ (c .before .before .before .op) .given .1)))
-
-visit-anew-requires-2 : (t : ℕ) → visit-lts.Need-anew-requires-2 (visit-claims t) (visit-at t) visit.Post
-visit-anew-requires-2 t c κs = search needs
-
-visit-enum-known-op-2 : (t : ℕ) → visit-lts.Need-enum-known-op-2 (visit-claims t) (visit-at t) visit.Post
-visit-enum-known-op-2 t c = search needs
-
-visit-after-two-requires : (t : ℕ) → visit-lts.Need-after-two-requires (visit-claims t) (visit-at t) visit.Post
-visit-after-two-requires t c κs =
-    let own = (c .before .before .before .before .before .before .before .before .pre) .0 in
-    let node = sym ((c .before .before .before .before .before .node-at) .ensures) ∙ (c .before .before .before .op2) .given .1 in
-    let same = two-same-weight ((c .before .before .before .before .before .before .before .before .pre) .1 .0) ((c .before .before .before .before .before .before .before .before .args) .i) ((c .before .before .before .before .before .before .before .before .pre) .1 .1 .0) ((c .before .before .before .before .before .before .before .before .args) .ready) ((c .before .if2) .taken) ((c .before .before .before .before .before .before .before .before .pre) .1 .1 .1) ((c .before .before .before .op2) .given .0 .0) ((c .before .before .before .op2) .given .0 .1 .0) ((c .before .before .before .op2) .given .0 .1 .1 .0) ((c .before .before .before .op2) .given .0 .1 .1 .1 .0) node in
-    (omega arith, ((c .before .before .before .before .before .before .before .before .pre) .1 .0, two-prepared ((c .before .before .before .before .before .before .before .before .pre) .1 .0) ((c .before .before .before .before .before .before .before .before .args) .i) ((c .before .before .before .before .before .before .before .before .pre) .1 .1 .0) ((c .before .before .before .before .before .before .before .before .args) .ready) ((c .before .if2) .taken) ((c .before .before .before .before .before .before .before .before .pre) .1 .1 .1) ((c .before .before .before .op2) .given .0 .0) ((c .before .before .before .op2) .given .0 .1 .0) ((c .before .before .before .op2) .given .0 .1 .1 .0) ((c .before .before .before .op2) .given .0 .1 .1 .1 .0) node))
-
-visit-anew-requires-3 : (t : ℕ) → visit-lts.Need-anew-requires-3 (visit-claims t) (visit-at t) visit.Post
-visit-anew-requires-3 t c κs = search needs
-
-visit-same-length-2 : (t : ℕ) → visit-lts.Need-same-length-2 (visit-claims t) (visit-at t) visit.Post
-visit-same-length-2 t c = search needs
-
-visit-returns-2 : (t : ℕ) → visit-lts.Need-returns-2 (visit-claims t) (visit-at t) visit.Post
-visit-returns-2 t c =
-    rw ((c .anew3) .ensures)
-    (two-prepared-ended ((c .before .before .before .before .before .before .before .before .before .before .before .before .pre) .1 .0) ((c .before .before .before .before .before .before .before .before .before .before .before .before .args) .i) ((c .before .before .before .before .before .before .before .before .before .before .before .before .pre) .1 .1 .0) ((c .before .before .before .before .before .before .before .before .before .before .before .before .args) .ready) ((c .before .before .before .before .before .if2) .taken) ((c .before .before .before .before .before .before .before .before .before .before .before .before .pre) .1 .1 .1) ((c .before .before .before .before .before .before .before .op2) .given .0 .0) ((c .before .before .before .before .before .before .before .op2) .given .0 .1 .0) ((c .before .before .before .before .before .before .before .op2) .given .0 .1 .1 .0) ((c .before .before .before .before .before .before .before .op2) .given .0 .1 .1 .1 .0) (sym ((c .before .before .before .before .before .before .before .before .before .node-at) .ensures) ∙ (c .before .before .before .before .before .before .before .op2) .given .1) ((c .before .before .before .after-two) .last .0) ((c .before .before .before .after-two) .result) ((c .before .before .before .after-two) .ensures))
-
-visit-visit-two-requires : (t : ℕ) → visit-lts.Need-visit-two-requires (visit-claims t) (visit-at t) visit.Post
-visit-visit-two-requires t c κs =
-    let own = (c .before .before .before .before .before .before .before .before .pre) .0 in
-    (omega arith, ((c .before .before .before .before .before .before .before .before .pre) .1 .0, ((c .before .before .before .before .before .before .before .before .pre) .1 .1 .0, sym ((c .before .before .before .before .before .node-at) .ensures) ∙ (c .before .before .before .op2) .given .1)))
-
-visit-anew-requires-4 : (t : ℕ) → visit-lts.Need-anew-requires-4 (visit-claims t) (visit-at t) visit.Post
-visit-anew-requires-4 t c κs = search needs
-
-visit-same-length-3 : (t : ℕ) → visit-lts.Need-same-length-3 (visit-claims t) (visit-at t) visit.Post
-visit-same-length-3 t c = search needs
-
-visit-returns-3 : (t : ℕ) → visit-lts.Need-returns-3 (visit-claims t) (visit-at t) visit.Post
-visit-returns-3 t c = ended-top ((c .before .before .before .before .before .pre) .1 .0) ((c .before .before .before .before .before .args) .i) ((c .before .before .before .before .before .pre) .1 .1 .0) (sym ((c .before .before .node-at) .ensures) ∙ (c .enum-told) .given .1)
-
-visit-same-length-4 : (t : ℕ) → visit-lts.Need-same-length-4 (visit-claims t) (visit-at t) visit.Post
-visit-same-length-4 t c = search needs
-
-visit-returns-4 : (t : ℕ) → visit-lts.Need-returns-4 (visit-claims t) (visit-at t) visit.Post
-visit-returns-4 t c = ended-entry ((c .before .before .before .before .before .pre) .1 .0) ((c .before .before .before .before .before .args) .i) ((c .before .before .before .before .before .pre) .1 .1 .0) (sym ((c .before .before .node-at) .ensures) ∙ (c .enum-told2) .given .1)
-
-visit-same-length-5 : (t : ℕ) → visit-lts.Need-same-length-5 (visit-claims t) (visit-at t) visit.Post
-visit-same-length-5 t c = search needs
-
-visit-returns-5 : (t : ℕ) → visit-lts.Need-returns-5 (visit-claims t) (visit-at t) visit.Post
-visit-returns-5 t c = ended-const ((c .before .before .before .before .before .pre) .1 .0) ((c .before .before .before .before .before .args) .i) ((c .before .before .before .before .before .pre) .1 .1 .0) (sym ((c .before .before .node-at) .ensures) ∙ (c .enum-told3) .given .1)
-
-visit-same-length-6 : (t : ℕ) → visit-lts.Need-same-length-6 (visit-claims t) (visit-at t) visit.Post
-visit-same-length-6 t c = search needs
-
-visit-returns-6 : (t : ℕ) → visit-lts.Need-returns-6 (visit-claims t) (visit-at t) visit.Post
-visit-returns-6 t c = ended-bind ((c .before .before .before .before .before .pre) .1 .0) ((c .before .before .before .before .before .args) .i) ((c .before .before .before .before .before .pre) .1 .1 .0) (sym ((c .before .before .node-at) .ensures) ∙ (c .enum-told4) .given .1)
-
-visit-same-length-7 : (t : ℕ) → visit-lts.Need-same-length-7 (visit-claims t) (visit-at t) visit.Post
-visit-same-length-7 t c = search needs
-
-visit-returns-7 : (t : ℕ) → visit-lts.Need-returns-7 (visit-claims t) (visit-at t) visit.Post
-visit-returns-7 t c = rw ((c .anew2) .ensures) ((c .before .before .before .visit-one) .ensures)
-
-visit-same-length-8 : (t : ℕ) → visit-lts.Need-same-length-8 (visit-claims t) (visit-at t) visit.Post
-visit-same-length-8 t c = search needs
-
-visit-returns-8 : (t : ℕ) → visit-lts.Need-returns-8 (visit-claims t) (visit-at t) visit.Post
-visit-returns-8 t c = rw ((c .anew4) .ensures) ((c .before .before .before .visit-two) .ensures)
-
-visit-one-dispatch-requires : (t : ℕ) → visit-one-lts.Need-dispatch-requires (visit-one-claims t) (visit-one-at t) visit-one.Post
-visit-one-dispatch-requires t c κs =
-    let child = unary-child ((c .before .before .pre) .1 .0) ((c .before .before .args) .i) ((c .before .before .pre) .1 .1 .0) ((c .before .before .args) .op) ((c .before .before .args) .size) ((c .before .before .args) .j) ((c .before .before .pre) .1 .1 .1) in
-    let own = (c .before .before .pre) .0 in
-    (omega (arith, child .1), ((c .before .before .pre) .1 .0, child .0))
-
-visit-one-enum-told : (t : ℕ) → visit-one-lts.Need-enum-told (visit-one-claims t) (visit-one-at t) visit-one.Post
-visit-one-enum-told t c = search needs
-
-visit-one-enum-known-a : (t : ℕ) → visit-one-lts.Need-enum-known-a (visit-one-claims t) (visit-one-at t) visit-one.Post
-visit-one-enum-known-a t c = search needs
-
-visit-one-after-one-requires : (t : ℕ) → visit-one-lts.Need-after-one-requires (visit-one-claims t) (visit-one-at t) visit-one.Post
-visit-one-after-one-requires t c κs =
-    let lighter = unary-lighter ((c .before .before .before .before .before .before .before .before .before .pre) .1 .0) ((c .before .before .before .before .before .before .before .before .before .args) .i) ((c .before .before .before .before .before .before .before .before .before .pre) .1 .1 .0) ((c .before .before .before .before .before .before .before .before .before .args) .op) ((c .before .before .before .before .before .before .before .before .before .args) .size) ((c .before .before .before .before .before .before .before .before .before .args) .j) ((c .before .before .before .before .before .before .before .before .before .pre) .1 .1 .1) ((c .before .before .before .before .before .before .dispatch) .last .0) ((c .before .before .a) .given .0 .0) ((c .before .before .a) .given .0 .1 .0) (rw ((c .before .before .a) .given .1) at ((c .before .before .before .before .before .before .dispatch) .ensures)) in
-    let own = (c .before .before .before .before .before .before .before .before .before .pre) .0 in
-    (omega arith, ((rw ((c .before .before .a) .given .1) at ((c .before .before .before .before .before .before .dispatch) .ensures)) .ran .live, one-ready ((c .before .before .before .before .before .before .before .before .before .pre) .1 .0) ((c .before .before .before .before .before .before .before .before .before .args) .i) ((c .before .before .before .before .before .before .before .before .before .pre) .1 .1 .0) ((c .before .before .before .before .before .before .before .before .before .args) .op) ((c .before .before .before .before .before .before .before .before .before .args) .size) ((c .before .before .before .before .before .before .before .before .before .args) .j) ((c .before .before .before .before .before .before .before .before .before .pre) .1 .1 .1) ((c .before .before .before .before .before .before .dispatch) .last .0) ((c .before .before .a) .given .0 .0) ((c .before .before .a) .given .0 .1 .0) (rw ((c .before .before .a) .given .1) at ((c .before .before .before .before .before .before .dispatch) .ensures))))
-
-visit-one-same-length : (t : ℕ) → visit-one-lts.Need-same-length (visit-one-claims t) (visit-one-at t) visit-one.Post
-visit-one-same-length t c = search needs
-
-visit-one-returns : (t : ℕ) → visit-one-lts.Need-returns (visit-one-claims t) (visit-one-at t) visit-one.Post
-visit-one-returns t c =
-    unary-unfinished ((c .before .before .before .before .before .before .before .pre) .1 .0) ((c .before .before .before .before .before .before .before .args) .i) ((c .before .before .before .before .before .before .before .pre) .1 .1 .0) ((c .before .before .before .before .before .before .before .args) .op) ((c .before .before .before .before .before .before .before .args) .size) ((c .before .before .before .before .before .before .before .args) .j) ((c .before .before .before .before .before .before .before .pre) .1 .1 .1) ((c .before .before .before .before .dispatch) .last .0) (rw ((c .enum-told) .given .1) at ((c .before .before .before .before .dispatch) .ensures))
-
-visit-one-same-length-2 : (t : ℕ) → visit-one-lts.Need-same-length-2 (visit-one-claims t) (visit-one-at t) visit-one.Post
-visit-one-same-length-2 t c = search needs
-
-visit-one-returns-2 : (t : ℕ) → visit-one-lts.Need-returns-2 (visit-one-claims t) (visit-one-at t) visit-one.Post
-visit-one-returns-2 t c =
-    unary-ended ((c .before .before .before .before .before .before .before .before .before .before .before .before .pre) .1 .0) ((c .before .before .before .before .before .before .before .before .before .before .before .before .args) .i) ((c .before .before .before .before .before .before .before .before .before .before .before .before .pre) .1 .1 .0) ((c .before .before .before .before .before .before .before .before .before .before .before .before .args) .op) ((c .before .before .before .before .before .before .before .before .before .before .before .before .args) .size) ((c .before .before .before .before .before .before .before .before .before .before .before .before .args) .j) ((c .before .before .before .before .before .before .before .before .before .before .before .before .pre) .1 .1 .1) ((c .before .before .before .before .before .before .before .before .before .dispatch) .last .0) ((c .before .before .before .before .before .a) .given .0 .0) ((c .before .before .before .before .before .a) .given .0 .1 .0) (rw ((c .before .before .before .before .before .a) .given .1) at ((c .before .before .before .before .before .before .before .before .before .dispatch) .ensures)) ((c .before .before .after-one) .last .0) ((c .before .before .after-one) .result) (isTop (treeOf ((c .before .before .before .before .before .a) .given .0 .1 .0) ((c .before .before .before .before .before .before .before .before .before .dispatch) .last .0) ((c .before .before .before .before .before .a) .given .0 .0))) refl ((c .before .before .after-one) .ensures)
-
-visit-two-dispatch-requires : (t : ℕ) → visit-two-lts.Need-dispatch-requires (visit-two-claims t) (visit-two-at t) visit-two.Post
-visit-two-dispatch-requires t c κs =
-    let children = binary-children ((c .before .before .pre) .1 .0) ((c .before .before .args) .i) ((c .before .before .pre) .1 .1 .0) ((c .before .before .args) .op) ((c .before .before .args) .size) ((c .before .before .args) .j) ((c .before .before .args) .k) ((c .before .before .pre) .1 .1 .1) in
-    let own = (c .before .before .pre) .0 in
-    (omega (arith, children .2), ((c .before .before .pre) .1 .0, children .0))
-
-visit-two-enum-told : (t : ℕ) → visit-two-lts.Need-enum-told (visit-two-claims t) (visit-two-at t) visit-two.Post
-visit-two-enum-told t c = search needs
-
-visit-two-enum-known-a : (t : ℕ) → visit-two-lts.Need-enum-known-a (visit-two-claims t) (visit-two-at t) visit-two.Post
-visit-two-enum-known-a t c = search needs
-
-visit-two-dispatch-requires-2 : (t : ℕ) → visit-two-lts.Need-dispatch-requires-2 (visit-two-claims t) (visit-two-at t) visit-two.Post
-visit-two-dispatch-requires-2 t c κs =
-    let lighter = right-lighter ((c .before .before .before .before .before .before .before .before .before .pre) .1 .0) ((c .before .before .before .before .before .before .before .before .before .args) .i) ((c .before .before .before .before .before .before .before .before .before .pre) .1 .1 .0) ((c .before .before .before .before .before .before .before .before .before .args) .op) ((c .before .before .before .before .before .before .before .before .before .args) .size) ((c .before .before .before .before .before .before .before .before .before .args) .j) ((c .before .before .before .before .before .before .before .before .before .args) .k) ((c .before .before .before .before .before .before .before .before .before .pre) .1 .1 .1) ((c .before .before .before .before .before .before .dispatch) .last .0) ((c .before .before .a) .given .0 .0) ((c .before .before .a) .given .0 .1 .0) (rw ((c .before .before .a) .given .1) at ((c .before .before .before .before .before .before .dispatch) .ensures)) in
-    let own = (c .before .before .before .before .before .before .before .before .before .pre) .0 in
-    (omega arith, right-child ((c .before .before .before .before .before .before .before .before .before .pre) .1 .0) ((c .before .before .before .before .before .before .before .before .before .args) .i) ((c .before .before .before .before .before .before .before .before .before .pre) .1 .1 .0) ((c .before .before .before .before .before .before .before .before .before .args) .op) ((c .before .before .before .before .before .before .before .before .before .args) .size) ((c .before .before .before .before .before .before .before .before .before .args) .j) ((c .before .before .before .before .before .before .before .before .before .args) .k) ((c .before .before .before .before .before .before .before .before .before .pre) .1 .1 .1) ((c .before .before .before .before .before .before .dispatch) .last .0) ((c .before .before .a) .given .0 .0) ((c .before .before .a) .given .0 .1 .0) (rw ((c .before .before .a) .given .1) at ((c .before .before .before .before .before .before .dispatch) .ensures)))
-
-visit-two-enum-told-2 : (t : ℕ) → visit-two-lts.Need-enum-told-2 (visit-two-claims t) (visit-two-at t) visit-two.Post
-visit-two-enum-told-2 t c = search needs
-
-visit-two-enum-known-b : (t : ℕ) → visit-two-lts.Need-enum-known-b (visit-two-claims t) (visit-two-at t) visit-two.Post
-visit-two-enum-known-b t c = search needs
-
-visit-two-after-two-requires : (t : ℕ) → visit-two-lts.Need-after-two-requires (visit-two-claims t) (visit-two-at t) visit-two.Post
-visit-two-after-two-requires t c κs =
-    let lighter = binary-lighter ((c .before .before .before .before .before .before .before .before .before .before .before .before .before .before .before .before .pre) .1 .0) ((c .before .before .before .before .before .before .before .before .before .before .before .before .before .before .before .before .args) .i) ((c .before .before .before .before .before .before .before .before .before .before .before .before .before .before .before .before .pre) .1 .1 .0) ((c .before .before .before .before .before .before .before .before .before .before .before .before .before .before .before .before .args) .op) ((c .before .before .before .before .before .before .before .before .before .before .before .before .before .before .before .before .args) .size) ((c .before .before .before .before .before .before .before .before .before .before .before .before .before .before .before .before .args) .j) ((c .before .before .before .before .before .before .before .before .before .before .before .before .before .before .before .before .args) .k) ((c .before .before .before .before .before .before .before .before .before .before .before .before .before .before .before .before .pre) .1 .1 .1) ((c .before .before .before .before .before .before .before .before .before .before .before .before .before .dispatch) .last .0) ((c .before .before .before .before .before .before .before .before .before .a) .given .0 .0) ((c .before .before .before .before .before .before .before .before .before .a) .given .0 .1 .0) (rw ((c .before .before .before .before .before .before .before .before .before .a) .given .1) at ((c .before .before .before .before .before .before .before .before .before .before .before .before .before .dispatch) .ensures)) ((c .before .before .before .before .before .before .dispatch2) .last .0) ((c .before .before .b) .given .0 .0) ((c .before .before .b) .given .0 .1 .0) (rw ((c .before .before .b) .given .1) at ((c .before .before .before .before .before .before .dispatch2) .ensures)) in
-    let own = (c .before .before .before .before .before .before .before .before .before .before .before .before .before .before .before .before .pre) .0 in
-    (omega arith, ((rw ((c .before .before .b) .given .1) at ((c .before .before .before .before .before .before .dispatch2) .ensures)) .ran .live, two-ready ((c .before .before .before .before .before .before .before .before .before .before .before .before .before .before .before .before .pre) .1 .0) ((c .before .before .before .before .before .before .before .before .before .before .before .before .before .before .before .before .args) .i) ((c .before .before .before .before .before .before .before .before .before .before .before .before .before .before .before .before .pre) .1 .1 .0) ((c .before .before .before .before .before .before .before .before .before .before .before .before .before .before .before .before .args) .op) ((c .before .before .before .before .before .before .before .before .before .before .before .before .before .before .before .before .args) .size) ((c .before .before .before .before .before .before .before .before .before .before .before .before .before .before .before .before .args) .j) ((c .before .before .before .before .before .before .before .before .before .before .before .before .before .before .before .before .args) .k) ((c .before .before .before .before .before .before .before .before .before .before .before .before .before .before .before .before .pre) .1 .1 .1) ((c .before .before .before .before .before .before .before .before .before .before .before .before .before .dispatch) .last .0) ((c .before .before .before .before .before .before .before .before .before .a) .given .0 .0) ((c .before .before .before .before .before .before .before .before .before .a) .given .0 .1 .0) (rw ((c .before .before .before .before .before .before .before .before .before .a) .given .1) at ((c .before .before .before .before .before .before .before .before .before .before .before .before .before .dispatch) .ensures)) ((c .before .before .before .before .before .before .dispatch2) .last .0) ((c .before .before .b) .given .0 .0) ((c .before .before .b) .given .0 .1 .0) (rw ((c .before .before .b) .given .1) at ((c .before .before .before .before .before .before .dispatch2) .ensures))))
-
-visit-two-same-length : (t : ℕ) → visit-two-lts.Need-same-length (visit-two-claims t) (visit-two-at t) visit-two.Post
-visit-two-same-length t c = search needs
-
-visit-two-returns : (t : ℕ) → visit-two-lts.Need-returns (visit-two-claims t) (visit-two-at t) visit-two.Post
-visit-two-returns t c =
-    left-unfinished ((c .before .before .before .before .before .before .before .pre) .1 .0) ((c .before .before .before .before .before .before .before .args) .i) ((c .before .before .before .before .before .before .before .pre) .1 .1 .0) ((c .before .before .before .before .before .before .before .args) .op) ((c .before .before .before .before .before .before .before .args) .size) ((c .before .before .before .before .before .before .before .args) .j) ((c .before .before .before .before .before .before .before .args) .k) ((c .before .before .before .before .before .before .before .pre) .1 .1 .1) ((c .before .before .before .before .dispatch) .last .0) (rw ((c .enum-told) .given .1) at ((c .before .before .before .before .dispatch) .ensures))
-
-visit-two-same-length-2 : (t : ℕ) → visit-two-lts.Need-same-length-2 (visit-two-claims t) (visit-two-at t) visit-two.Post
-visit-two-same-length-2 t c = search needs
-
-visit-two-returns-2 : (t : ℕ) → visit-two-lts.Need-returns-2 (visit-two-claims t) (visit-two-at t) visit-two.Post
-visit-two-returns-2 t c =
-    right-unfinished ((c .before .before .before .before .before .before .before .before .before .before .before .before .before .before .pre) .1 .0) ((c .before .before .before .before .before .before .before .before .before .before .before .before .before .before .args) .i) ((c .before .before .before .before .before .before .before .before .before .before .before .before .before .before .pre) .1 .1 .0) ((c .before .before .before .before .before .before .before .before .before .before .before .before .before .before .args) .op) ((c .before .before .before .before .before .before .before .before .before .before .before .before .before .before .args) .size) ((c .before .before .before .before .before .before .before .before .before .before .before .before .before .before .args) .j) ((c .before .before .before .before .before .before .before .before .before .before .before .before .before .before .args) .k) ((c .before .before .before .before .before .before .before .before .before .before .before .before .before .before .pre) .1 .1 .1) ((c .before .before .before .before .before .before .before .before .before .before .before .dispatch) .last .0) ((c .before .before .before .before .before .before .before .a) .given .0 .0) ((c .before .before .before .before .before .before .before .a) .given .0 .1 .0) (rw ((c .before .before .before .before .before .before .before .a) .given .1) at ((c .before .before .before .before .before .before .before .before .before .before .before .dispatch) .ensures)) ((c .before .before .before .before .dispatch2) .last .0) (rw ((c .enum-told2) .given .1) at ((c .before .before .before .before .dispatch2) .ensures))
-
-visit-two-same-length-3 : (t : ℕ) → visit-two-lts.Need-same-length-3 (visit-two-claims t) (visit-two-at t) visit-two.Post
-visit-two-same-length-3 t c = search needs
-
-visit-two-returns-3 : (t : ℕ) → visit-two-lts.Need-returns-3 (visit-two-claims t) (visit-two-at t) visit-two.Post
-visit-two-returns-3 t c =
-    binary-ended ((c .before .before .before .before .before .before .before .before .before .before .before .before .before .before .before .before .before .before .before .pre) .1 .0) ((c .before .before .before .before .before .before .before .before .before .before .before .before .before .before .before .before .before .before .before .args) .i) ((c .before .before .before .before .before .before .before .before .before .before .before .before .before .before .before .before .before .before .before .pre) .1 .1 .0) ((c .before .before .before .before .before .before .before .before .before .before .before .before .before .before .before .before .before .before .before .args) .op) ((c .before .before .before .before .before .before .before .before .before .before .before .before .before .before .before .before .before .before .before .args) .size) ((c .before .before .before .before .before .before .before .before .before .before .before .before .before .before .before .before .before .before .before .args) .j) ((c .before .before .before .before .before .before .before .before .before .before .before .before .before .before .before .before .before .before .before .args) .k) ((c .before .before .before .before .before .before .before .before .before .before .before .before .before .before .before .before .before .before .before .pre) .1 .1 .1) ((c .before .before .before .before .before .before .before .before .before .before .before .before .before .before .before .before .dispatch) .last .0) ((c .before .before .before .before .before .before .before .before .before .before .before .before .a) .given .0 .0) ((c .before .before .before .before .before .before .before .before .before .before .before .before .a) .given .0 .1 .0) (rw ((c .before .before .before .before .before .before .before .before .before .before .before .before .a) .given .1) at ((c .before .before .before .before .before .before .before .before .before .before .before .before .before .before .before .before .dispatch) .ensures)) ((c .before .before .before .before .before .before .before .before .before .dispatch2) .last .0) ((c .before .before .before .before .before .b) .given .0 .0) ((c .before .before .before .before .before .b) .given .0 .1 .0) (rw ((c .before .before .before .before .before .b) .given .1) at ((c .before .before .before .before .before .before .before .before .before .dispatch2) .ensures)) ((c .before .before .after-two) .last .0) ((c .before .before .after-two) .result)
-    (isTop (treeOf ((c .before .before .before .before .before .b) .given .0 .1 .0) ((c .before .before .before .before .before .before .before .before .before .dispatch2) .last .0) ((c .before .before .before .before .before .before .before .before .before .before .before .before .a) .given .0 .0)) || isTop (treeOf ((c .before .before .before .before .before .b) .given .0 .1 .0) ((c .before .before .before .before .before .before .before .before .before .dispatch2) .last .0) ((c .before .before .before .before .before .b) .given .0 .0))) refl ((c .before .before .after-two) .ensures)
-
-pub +add-rule+after-one+after-two+dispatch+sext-rule+sub-rule+visit+visit-one+visit-two-spec :
-    {M : Type 1} → statement M
-+add-rule+after-one+after-two+dispatch+sext-rule+sub-rule+visit+visit-one+visit-two-spec =
+pub +add·add-rule+dispatch·after-one+dispatch·after-two+dispatch·child+dispatch·dispatch+dispatch·visit+dispatch·visit-one+dispatch·visit-two+sign-extend·sext-rule+sub·sub-rule-spec : {M : Type 1} → statement M
++add·add-rule+dispatch·after-one+dispatch·after-two+dispatch·child+dispatch·dispatch+dispatch·visit+dispatch·visit-one+dispatch·visit-two+sign-extend·sext-rule+sub·sub-rule-spec =
     close
     μ-add-rule
     μ-after-one
     μ-after-two
+    μ-child
     μ-dispatch
-    μ-sext-rule
-    μ-sub-rule
     μ-visit
     μ-visit-one
     μ-visit-two
+    μ-sext-rule
+    μ-sub-rule
     (λ t. add-rule-lts.spec
     (add-rule-claims t)
     (add-rule-at t)
@@ -664,18 +658,8 @@ pub +add-rule+after-one+after-two+dispatch+sext-rule+sub-rule+visit+visit-one+vi
     (add-rule-returns-2 t)
     (add-rule-same-length-3 t)
     (add-rule-returns-3 t))
-    (λ t. after-one-lts.spec (
-      node-at-reads.Asked,
-      node-at-reads.Learnt,
-      is-top-reads.Asked,
-      is-top-reads.Learnt,
-      push-reads.Asked,
-      push-reads.Learnt,
-      sext-rule-below t,
-      sext-rule.Post,
-      plain-one-reads.Asked,
-      plain-one-reads.Learnt,
-    )
+    (λ t. after-one-lts.spec
+    (after-one-claims t)
     (after-one-at t)
     after-one.Post
     (after-one-node-at-requires t)
@@ -691,22 +675,8 @@ pub +add-rule+after-one+after-two+dispatch+sext-rule+sub-rule+visit+visit-one+vi
     (after-one-returns-2 t)
     (after-one-same-length-3 t)
     (after-one-returns-3 t))
-    (λ t. after-two-lts.spec (
-      node-at-reads.Asked,
-      node-at-reads.Learnt,
-      is-top-reads.Asked,
-      is-top-reads.Learnt,
-      push-reads.Asked,
-      push-reads.Learnt,
-      turn-of-reads.Asked,
-      turn-of-reads.Learnt,
-      add-rule-below t,
-      add-rule.Post,
-      sub-rule-below t,
-      sub-rule.Post,
-      plain-two-reads.Asked,
-      plain-two-reads.Learnt,
-    )
+    (λ t. after-two-lts.spec
+    (after-two-claims t)
     (after-two-at t)
     after-two.Post
     (after-two-node-at-requires t)
@@ -732,13 +702,79 @@ pub +add-rule+after-one+after-two+dispatch+sext-rule+sub-rule+visit+visit-one+vi
     (after-two-returns-4 t)
     (after-two-same-length-5 t)
     (after-two-returns-5 t))
+    (λ t. child-lts.spec
+    (child-claims t)
+    (child-at t)
+    child.Post
+    (child-is-leaf-requires t)
+    (child-same-length t)
+    (child-returns t)
+    (child-dispatch-requires t)
+    (child-same-length-2 t)
+    (child-returns-2 t))
     (λ t. dispatch-lts.spec
-    (visit-below t, visit.Post)
+    (dispatch-claims t)
     (dispatch-at t)
     dispatch.Post
     (dispatch-visit-requires t)
     (dispatch-same-length t)
     (dispatch-returns t))
+    (λ t. visit-lts.spec
+    (visit-claims t)
+    (visit-at t)
+    visit.Post
+    (visit-node-at-requires t)
+    (visit-enum-told t)
+    (visit-enum-told-2 t)
+    (visit-enum-told-3 t)
+    (visit-enum-told-4 t)
+    (visit-enum-known-op t)
+    (visit-visit-one-requires t)
+    (visit-anew-requires t)
+    (visit-enum-known-op-2 t)
+    (visit-visit-two-requires t)
+    (visit-anew-requires-2 t)
+    (visit-same-length t)
+    (visit-returns t)
+    (visit-same-length-2 t)
+    (visit-returns-2 t)
+    (visit-same-length-3 t)
+    (visit-returns-3 t)
+    (visit-same-length-4 t)
+    (visit-returns-4 t)
+    (visit-same-length-5 t)
+    (visit-returns-5 t)
+    (visit-same-length-6 t)
+    (visit-returns-6 t))
+    (λ t. visit-one-lts.spec
+    (visit-one-claims t)
+    (visit-one-at t)
+    visit-one.Post
+    (visit-one-child-requires t)
+    (visit-one-enum-told t)
+    (visit-one-enum-known-a t)
+    (visit-one-after-one-requires t)
+    (visit-one-same-length t)
+    (visit-one-returns t)
+    (visit-one-same-length-2 t)
+    (visit-one-returns-2 t))
+    (λ t. visit-two-lts.spec
+    (visit-two-claims t)
+    (visit-two-at t)
+    visit-two.Post
+    (visit-two-child-requires t)
+    (visit-two-enum-told t)
+    (visit-two-enum-known-a t)
+    (visit-two-child-requires-2 t)
+    (visit-two-enum-told-2 t)
+    (visit-two-enum-known-b t)
+    (visit-two-after-two-requires t)
+    (visit-two-same-length t)
+    (visit-two-returns t)
+    (visit-two-same-length-2 t)
+    (visit-two-returns-2 t)
+    (visit-two-same-length-3 t)
+    (visit-two-returns-3 t))
     (λ t. sext-rule-lts.spec
     (sext-rule-claims t)
     (sext-rule-at t)
@@ -755,7 +791,7 @@ pub +add-rule+after-one+after-two+dispatch+sext-rule+sub-rule+visit+visit-one+vi
     (sext-rule-returns-2 t)
     (sext-rule-same-length-3 t)
     (sext-rule-returns-3 t))
-    (λ t. sub-rule-lts.spec
+    λ t. sub-rule-lts.spec
     (sub-rule-claims t)
     (sub-rule-at t)
     sub-rule.Post
@@ -770,68 +806,4 @@ pub +add-rule+after-one+after-two+dispatch+sext-rule+sub-rule+visit+visit-one+vi
     (sub-rule-same-length-2 t)
     (sub-rule-returns-2 t)
     (sub-rule-same-length-3 t)
-    (sub-rule-returns-3 t))
-    (λ t. visit-lts.spec
-    (visit-claims t)
-    (visit-at t)
-    visit.Post
-    (visit-node-at-requires t)
-    (visit-enum-told t)
-    (visit-enum-told-2 t)
-    (visit-enum-told-3 t)
-    (visit-enum-told-4 t)
-    (visit-enum-known-op t)
-    (visit-after-one-requires t)
-    (visit-anew-requires t)
-    (visit-same-length t)
-    (visit-returns t)
-    (visit-visit-one-requires t)
-    (visit-anew-requires-2 t)
-    (visit-enum-known-op-2 t)
-    (visit-after-two-requires t)
-    (visit-anew-requires-3 t)
-    (visit-same-length-2 t)
-    (visit-returns-2 t)
-    (visit-visit-two-requires t)
-    (visit-anew-requires-4 t)
-    (visit-same-length-3 t)
-    (visit-returns-3 t)
-    (visit-same-length-4 t)
-    (visit-returns-4 t)
-    (visit-same-length-5 t)
-    (visit-returns-5 t)
-    (visit-same-length-6 t)
-    (visit-returns-6 t)
-    (visit-same-length-7 t)
-    (visit-returns-7 t)
-    (visit-same-length-8 t)
-    (visit-returns-8 t))
-    (λ t. visit-one-lts.spec
-    (dispatch-below t, dispatch.Post, after-one-below t, after-one.Post)
-    (visit-one-at t)
-    visit-one.Post
-    (visit-one-dispatch-requires t)
-    (visit-one-enum-told t)
-    (visit-one-enum-known-a t)
-    (visit-one-after-one-requires t)
-    (visit-one-same-length t)
-    (visit-one-returns t)
-    (visit-one-same-length-2 t)
-    (visit-one-returns-2 t))
-    λ t. visit-two-lts.spec
-    (dispatch-below t, dispatch.Post, after-two-below t, after-two.Post)
-    (visit-two-at t)
-    visit-two.Post
-    (visit-two-dispatch-requires t)
-    (visit-two-enum-told t)
-    (visit-two-enum-known-a t)
-    (visit-two-dispatch-requires-2 t)
-    (visit-two-enum-told-2 t)
-    (visit-two-enum-known-b t)
-    (visit-two-after-two-requires t)
-    (visit-two-same-length t)
-    (visit-two-returns t)
-    (visit-two-same-length-2 t)
-    (visit-two-returns-2 t)
-    (visit-two-same-length-3 t)
-    (visit-two-returns-3 t)
+    (sub-rule-returns-3 t)

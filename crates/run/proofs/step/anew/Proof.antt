@@ -1,8 +1,8 @@
 -- A step made anew is the same step. Assumes nothing.
 use borrow.Author.Needs.{needs}
 use mathlib.Core.Path.{sym}
-use Rattle.run.proofs.anew.Statement.{statement}
-use Rattle.run.proofs.anew.Tie as tie
+use Rattle.run.proofs.step.anew.Statement.{statement}
+use Rattle.run.proofs.step.anew.Tie as tie
 
 enum-known-step : tie.Need-enum-known-step
 enum-known-step c = search needs

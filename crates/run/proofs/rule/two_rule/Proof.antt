@@ -4,8 +4,8 @@ use mathlib.Core.Path.{refl}
 use Rattle.acts.specs.Decided.{over-size}
 use Rattle.run.specs.Settled.{settles-binary}
 use Rattle.run.specs.Visits.{two-ran}
-use Rattle.run.proofs.two_rule.Statement.{statement}
-use Rattle.run.proofs.two_rule.Tie as tie
+use Rattle.run.proofs.rule.two_rule.Statement.{statement}
+use Rattle.run.proofs.rule.two_rule.Tie as tie
 
 bin-act-requires : tie.Need-bin-act-requires
 bin-act-requires c κs = search needs
