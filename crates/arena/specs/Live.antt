@@ -47,3 +47,19 @@ nodeIsTop (Node.Const size value) = false
 nodeIsTop (Node.Bind size id) = false
 nodeIsTop (Node.Unary op size left) = false
 nodeIsTop (Node.Binary op size left right) = false
+
+abbrev pub nodeIsConst : Node → Bool
+nodeIsConst Node.Top = false
+nodeIsConst (Node.Entry size space offset) = false
+nodeIsConst (Node.Const size value) = true
+nodeIsConst (Node.Bind size id) = false
+nodeIsConst (Node.Unary op size left) = false
+nodeIsConst (Node.Binary op size left right) = false
+
+abbrev pub nodeIsLeaf : Node → Bool
+nodeIsLeaf Node.Top = true
+nodeIsLeaf (Node.Entry size space offset) = true
+nodeIsLeaf (Node.Const size value) = true
+nodeIsLeaf (Node.Bind size id) = true
+nodeIsLeaf (Node.Unary op size left) = false
+nodeIsLeaf (Node.Binary op size left right) = false
