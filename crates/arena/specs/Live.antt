@@ -48,6 +48,14 @@ nodeIsTop (Node.Bind size id) = false
 nodeIsTop (Node.Unary op size left) = false
 nodeIsTop (Node.Binary op size left right) = false
 
+abbrev pub nodeIsConst : Node → Bool
+nodeIsConst Node.Top = false
+nodeIsConst (Node.Entry size space offset) = false
+nodeIsConst (Node.Const size value) = true
+nodeIsConst (Node.Bind size id) = false
+nodeIsConst (Node.Unary op size left) = false
+nodeIsConst (Node.Binary op size left right) = false
+
 abbrev pub nodeIsLeaf : Node → Bool
 nodeIsLeaf Node.Top = true
 nodeIsLeaf (Node.Entry size space offset) = true

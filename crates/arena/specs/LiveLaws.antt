@@ -1,13 +1,22 @@
--- Laws of a live arena: its nodes are in order, and each tree is its node over its children's trees. Assumes nothing.
+-- Laws of a live arena: what a node's kind tells of it, that the nodes are in order, and that each tree is its node over its
+-- children's trees. Assumes nothing.
 use mathlib.Core.List.{List}
 use mathlib.Core.Path.{_≡_, refl, ap, sym, _∙_}
 use Prim.Native.Nat.{ℕ, _+_, _*_, _/_, _≤_, _<_, min}
+use native.Mathlib.Decide.{decLt}
 use native.Mathlib.Nat.{min-le-left, min-le-right}
 use native.Mathlib.Omega.{arith}
+use lib.Dec.{eqb, ltb}
 use lib.ListN.{length}
-use Rattle.arena.specs.Live.{Live, Good, treeOf, nodeSize, nodeIsTop}
-use Rattle.format.specs.Limits.{nodeWords, maxNodes, capacity}
+use Rattle.arena.specs.Live.{Live, Good, treeOf, nodeSize, nodeIsTop, nodeIsConst, nodeIsLeaf}
+use Rattle.format.specs.Header.{kindOf}
+use Rattle.format.specs.KindRules.{numberOf, isConst, isLeaf, const-by-kind, leaf-by-kind}
+use Rattle.format.specs.Kinds.{kindCount, leafKinds, shapeOf}
+use Rattle.format.specs.Limits.{nodeWords, maxNodes, capacity, headerAt, payloadAt}
+use Rattle.format.specs.Nodes.{nodeOf, shaped, headerOf}
+use Rattle.format.specs.NodesOfWords.{node-of-unknown}
 use Rattle.format.specs.declared.Node.{Node}
+use Rattle.format.specs.declared.Shape.{Shape}
 use Rattle.rules.specs.Run.{leftChild}
 use Rattle.tree.specs.Arena.{nodeAt, nodesOf, at, build, treeAt, Below, Ordered}
 use Rattle.tree.specs.ArenaLaws.{length-nodesOf, at-nodesOf, tree-eq}
@@ -37,6 +46,48 @@ module _ (tree : ℕ → Tree) where
   top-of-node (Node.Bind s d) = refl
   top-of-node (Node.Unary op s j) = refl
   top-of-node (Node.Binary op s j k) = refl
+
+-- a node is a constant, or a leaf, if its shape is
+module _ (word payload : ℕ) where
+  const-of-shape : (shape : Shape) → nodeIsConst (shaped shape word payload) ≡ isConst shape
+  const-of-shape Shape.Top = refl
+  const-of-shape Shape.Entry = refl
+  const-of-shape Shape.Const = refl
+  const-of-shape Shape.Bind = refl
+  const-of-shape (Shape.Unary op) = refl
+  const-of-shape (Shape.Binary op) = refl
+
+  leaf-of-shape : (shape : Shape) → nodeIsLeaf (shaped shape word payload) ≡ isLeaf shape
+  leaf-of-shape Shape.Top = refl
+  leaf-of-shape Shape.Entry = refl
+  leaf-of-shape Shape.Const = refl
+  leaf-of-shape Shape.Bind = refl
+  leaf-of-shape (Shape.Unary op) = refl
+  leaf-of-shape (Shape.Binary op) = refl
+
+-- a node is a constant if it has Const's kind
+pub const-at : (words : List ℕ) (i : ℕ) → nodeIsConst (nodeAt words i) ≡ eqb (kindOf (headerAt words i)) (numberOf Shape.Const)
+unfolding nodeOf
+const-at words i =
+    let kind = kindOf (headerAt words i) in
+    const-of-shape (headerAt words i) (payloadAt words i) (shapeOf kind) ∙ const-by-kind kind
+
+-- a live arena's kinds are known: an unknown one would read as Top, whose header has kind 0
+pub kind-known : {words : List ℕ} {i : ℕ} → Good words i → kindOf (headerAt words i) < kindCount
+kind-known {words} {i} good = go (decLt (kindOf (headerAt words i)) kindCount)
+  where
+    go : Dec (kindOf (headerAt words i) < kindCount) → kindOf (headerAt words i) < kindCount
+    go (yes p) = p
+    go (no p) =
+        let unknown : nodeAt words i ≡ Node.Top = node-of-unknown (headerAt words i) (payloadAt words i) (omega arith) in
+        omega (arith, ap kindOf (sym (good .header-is) ∙ ap headerOf unknown))
+
+-- so a node is a leaf if its kind is one of the first
+pub leaf-at : {words : List ℕ} {i : ℕ} → Good words i → nodeIsLeaf (nodeAt words i) ≡ ltb (kindOf (headerAt words i)) leafKinds
+unfolding nodeOf
+leaf-at {words} {i} good =
+    let kind = kindOf (headerAt words i) in
+    leaf-of-shape (headerAt words i) (payloadAt words i) (shapeOf kind) ∙ leaf-by-kind kind (kind-known good)
 
 pub live-ordered : {words : List ℕ} {count : ℕ} → Live words count → Ordered (nodesOf count words)
 live-ordered {words} {count} l i b =

@@ -2,15 +2,20 @@
 ghost use mathlib.Core.Path.{_≡_};
 ghost use Prim.Native.Nat.{_+_, _*_, _<_};
 ghost use lib.ListN.{length};
-ghost use Rattle.format.specs.Limits.{nodeWords, capacity as capacityOf};
+ghost use Rattle.format.specs.Limits.{nodeWords, capacity as capacityOf, headerAt, payloadAt};
 ghost use Rattle.tree.specs.Arena.{nodeAt, nodesOf};
 ghost use Rattle.rules.specs.Run.{append, leftChild, near as nearOf};
-ghost use Rattle.arena.specs.Live.{Live, New, nodeSize, nodeIsTop, nodeIsLeaf};
+ghost use Rattle.arena.specs.Live.{Live, New, nodeSize, nodeIsTop, nodeIsConst, nodeIsLeaf};
 ghost use Rattle.arena.specs.Ended.{Ended};
 use format::Node;
 use rules::Near;
 use words::MAX_NODES;
 use words::NODE_WORDS;
+
+// Const's number.
+const KIND_CONST: usize = 2;
+// How many kinds have no children: the first ones, Top, Entry, Const and Bind.
+const LEAF_KINDS: usize = 4;
 
 // How a run that appends ends: at an index, with a new count, or without room for a node.
 pub enum Step {
@@ -26,11 +31,43 @@ pub fn capacity(len: usize) -> usize
     if nodes < MAX_NODES { nodes } else { MAX_NODES }
 }
 
+// A node's two words.
+pub fn header_at(words: &[u64], i: usize) -> u64
+    requires { ⌜ nodeWords * i + 1 < length (now words) ⌝ }
+    ensures { λ r. ⌜ r ≡ headerAt (now (words .entry)) i ⌝ }
+{
+    words[NODE_WORDS * i]
+}
+
+pub fn payload_at(words: &[u64], i: usize) -> u64
+    requires { ⌜ nodeWords * i + 1 < length (now words) ⌝ }
+    ensures { λ r. ⌜ r ≡ payloadAt (now (words .entry)) i ⌝ }
+{
+    words[NODE_WORDS * i + 1]
+}
+
 pub fn node_at(words: &[u64], i: usize) -> Node
     requires { ⌜ nodeWords * i + 1 < length (now words) ⌝ }
     ensures { λ r. ⌜ r ≡ nodeAt (now (words .entry)) i ⌝ }
 {
-    words::nodes::node_of(words[NODE_WORDS * i], words[NODE_WORDS * i + 1])
+    words::nodes::node_of(header_at(words, i), payload_at(words, i))
+}
+
+// Whether node i is a constant, by its kind alone.
+pub fn is_const(words: &[u64], i: usize) -> bool
+    requires { ⌜ nodeWords * i + 1 < length (now words) ⌝ }
+    ensures { λ r. ⌜ r ≡ nodeIsConst (nodeAt (now (words .entry)) i) ⌝ }
+{
+    words::fields::kind_of(header_at(words, i)) == KIND_CONST
+}
+
+// Whether node i has no children, by its kind alone.
+pub fn is_leaf(words: &[u64], count: usize, i: usize) -> bool
+    requires { ⌜ Live (now words) count ⌝ }
+    requires { ⌜ i < count ⌝ }
+    ensures { λ r. ⌜ r ≡ nodeIsLeaf (nodeAt (now (words .entry)) i) ⌝ }
+{
+    words::fields::kind_of(header_at(words, i)) < LEAF_KINDS
 }
 
 pub fn size_of(node: Node) -> u64
@@ -57,28 +94,6 @@ pub fn is_top(node: Node) -> bool
         Node::Unary(_, _, _) => false,
         Node::Binary(_, _, _, _) => false,
     }
-}
-
-fn is_leaf_node(node: Node) -> bool
-    ensures { λ r. ⌜ r ≡ nodeIsLeaf node ⌝ }
-{
-    match node {
-        Node::Top => true,
-        Node::Entry(_, _, _) => true,
-        Node::Const(_, _) => true,
-        Node::Bind(_, _) => true,
-        Node::Unary(_, _, _) => false,
-        Node::Binary(_, _, _, _) => false,
-    }
-}
-
-// Whether node i has no children.
-pub fn is_leaf(words: &[u64], count: usize, i: usize) -> bool
-    requires { ⌜ Live (now words) count ⌝ }
-    requires { ⌜ i < count ⌝ }
-    ensures { λ r. ⌜ r ≡ nodeIsLeaf (nodeAt (now (words .entry)) i) ⌝ }
-{
-    is_leaf_node(node_at(words, i))
 }
 
 // The left child of node i. A leaf has none, and no rule asks for it.

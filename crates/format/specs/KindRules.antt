@@ -2,10 +2,12 @@
 use mathlib.Core.Path.{_≡_, refl, ap, _∙_, sym}
 use mathlib.Core.Bool.{Bool, true, false, _&&_, Bool·beq}
 use Prim.Native.Nat.{ℕ, _<_, _≤_}
-use lib.Dec.{eqb, lit<}
+use native.Mathlib.Decide.{decLt}
+use native.Mathlib.Omega.{arith}
+use lib.Dec.{eqb, ltb, lit<}
 use lib.ListN.{length, List·getD-eq-default}
-use borrow.Author.Tests.{eqb-true}
-use Rattle.format.specs.Kinds.{Kind, kinds, kindCount, unknownKind, lineOf, shapeOf, rowOf, unNumber, binNumber}
+use borrow.Author.Tests.{eqb-true, ne-eqb}
+use Rattle.format.specs.Kinds.{Kind, kinds, kindCount, leafKinds, unknownKind, lineOf, shapeOf, rowOf, unNumber, binNumber}
 use Rattle.format.specs.Table.{at-line}
 use Rattle.format.specs.Truth.{and-left, and-right}
 use Rattle.format.specs.declared.Bin.{Bin}
@@ -55,6 +57,22 @@ isTop Shape.Const = false
 isTop Shape.Bind = false
 isTop (Shape.Unary op) = false
 isTop (Shape.Binary op) = false
+
+abbrev pub isConst : Shape → Bool
+isConst Shape.Top = false
+isConst Shape.Entry = false
+isConst Shape.Const = true
+isConst Shape.Bind = false
+isConst (Shape.Unary op) = false
+isConst (Shape.Binary op) = false
+
+abbrev pub isLeaf : Shape → Bool
+isLeaf Shape.Top = true
+isLeaf Shape.Entry = true
+isLeaf Shape.Const = true
+isLeaf Shape.Bind = true
+isLeaf (Shape.Unary op) = false
+isLeaf (Shape.Binary op) = false
 
 abbrev pub isUnsized : Sizing → Bool
 isUnsized Sizing.Unsized = true
@@ -124,6 +142,22 @@ row-of-unknown kind h = ap (λ (line : Kind). line .row) (List·getD-eq-default 
 pub shape-of-unknown : (kind : ℕ) → kindCount ≤ kind → shapeOf kind ≡ Shape.Top
 unfolding shapeOf
 shape-of-unknown kind h = ap (λ (line : Kind). line .shape) (List·getD-eq-default kinds unknownKind h)
+
+-- a known kind is a leaf's if it is one of the first
+pub leaf-by-kind : (kind : ℕ) → kind < kindCount → isLeaf (shapeOf kind) ≡ ltb kind leafKinds
+unfolding shapeOf
+leaf-by-kind kind h =
+    same _ _ (at-line (λ (k : ℕ) (line : Kind). Bool·beq (isLeaf (line .shape)) (ltb k leafKinds)) unknownKind kinds refl kind h)
+
+-- a kind is Const's if it has its number, and an unknown one is not
+pub const-by-kind : (kind : ℕ) → isConst (shapeOf kind) ≡ eqb kind (numberOf Shape.Const)
+unfolding shapeOf
+const-by-kind kind = go (decLt kind kindCount)
+  where
+    go : Dec (kind < kindCount) → isConst (shapeOf kind) ≡ eqb kind (numberOf Shape.Const)
+    go (yes h) =
+        same _ _ (at-line (λ (k : ℕ) (line : Kind). Bool·beq (isConst (line .shape)) (eqb k (numberOf Shape.Const))) unknownKind kinds refl kind h)
+    go (no h) = ap isConst (shape-of-unknown kind (omega arith)) ∙ sym (ne-eqb kind (numberOf Shape.Const) (omega arith))
 
 -- the line of a shape's number is the shape's
 pub shape-of-number : (shape : Shape) → shapeOf (numberOf shape) ≡ shape

@@ -51,6 +51,10 @@ kinds =
 abbrev pub kindCount : ℕ
 kindCount = 17
 
+-- how many kinds have no children: the first ones
+abbrev pub leafKinds : ℕ
+leafKinds = 4
+
 -- the line of a number that is no kind's: Top's
 abbrev pub unknownKind : Kind
 unknownKind = leaf Shape.Top false false Sizing.Unsized

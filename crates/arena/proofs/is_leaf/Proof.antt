@@ -1,18 +1,18 @@
--- Assumes nothing.
+-- A node of a live arena is a leaf if it has the kind of one. Assumes nothing.
 use borrow.Author.Needs.{needs}
-use mathlib.Core.Path.{ap, _∙_}
-use Rattle.arena.specs.Live.{nodeIsLeaf}
+use mathlib.Core.Path.{sym}
+use Rattle.arena.specs.LiveLaws.{leaf-at}
 use Rattle.arena.proofs.is_leaf.Statement.{statement}
 use Rattle.arena.proofs.is_leaf.Tie as tie
 
-node-at-requires : tie.Need-node-at-requires
-node-at-requires c κs = search needs
+header-at-requires : tie.Need-header-at-requires
+header-at-requires c κs = search needs
 
-is-leaf-node-requires : tie.Need-is-leaf-node-requires
-is-leaf-node-requires c κs = search needs
+kind-of-requires : tie.Need-kind-of-requires
+kind-of-requires c κs = search needs
 
 returns : tie.Need-returns
-returns c = (c .is-leaf-node) .ensures ∙ ap nodeIsLeaf ((c .before .node-at) .ensures)
+returns c = rw ((c .kind-of) .ensures, (c .before .header-at) .ensures) (sym (leaf-at ((c .before .before .before .pre) .0 .good ((c .before .before .before .args) .i) ((c .before .before .before .pre) .1))))
 
 pub is-leaf-spec : {M : Type 1} → statement M
-is-leaf-spec = tie.close (tie.spec node-at-requires is-leaf-node-requires returns)
+is-leaf-spec = tie.close (tie.spec header-at-requires kind-of-requires returns)
