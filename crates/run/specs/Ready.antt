@@ -16,8 +16,8 @@ use Rattle.format.specs.declared.ChildSize.{ChildSize}
 use Rattle.format.specs.declared.Node.{Node}
 use Rattle.format.specs.declared.Un.{Un}
 use Rattle.rules.specs.Run.{Out, out, unaryRun, binaryRun, weight, simplified}
-use Rattle.run.specs.Chains.{after-run, ended-here, unary-child, unary-ended, unary-lighter, binary-children, binary-ended, binary-lighter, right-lighter}
-use Rattle.run.specs.Visits.{OneAt, TwoAt}
+use Rattle.settle.specs.Chains.{after-run, ended-here, unary-child, unary-ended, unary-lighter, binary-children, binary-ended, binary-lighter, right-lighter}
+use Rattle.settle.specs.Visits.{OneAt, TwoAt}
 use Rattle.theory.specs.Normal.{Normal, normal-top}
 use Rattle.theory.specs.Reduced.{reduced-normal, reduced-top}
 use Rattle.theory.specs.Simulation.{run-on-normal, simplified-stands}

@@ -1,13 +1,13 @@
 // Add: what it rebuilds is simplified again.
 ghost use Rattle.arena.specs.Live.{Live};
 ghost use Rattle.arena.specs.Ended.{Ended};
-ghost use Rattle.run.specs.Visits.{TwoAt, twoWhole};
+ghost use Rattle.settle.specs.Visits.{TwoAt, twoWhole};
 use crate::dispatch::visit;
-use crate::rule::Outcome;
-use crate::rule::two_rule;
 use crate::step::anew;
 use arena::Step;
 use format::Bin;
+use settle::rule::Outcome;
+use settle::rule::two_rule;
 
 pub fn add_rule(
     words: &mut [u64],

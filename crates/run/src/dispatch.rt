@@ -7,17 +7,17 @@ ghost use Rattle.arena.specs.Live.{Live, treeOf};
 ghost use Rattle.arena.specs.Ended.{Ended};
 ghost use Rattle.run.specs.Ready.{OneReady, TwoReady, Ready, Prepared, afterOne, afterTwo};
 use crate::add::add_rule;
-use crate::rule::plain_one;
-use crate::rule::plain_two;
 use crate::sign_extend::sext_rule;
 use crate::step::anew;
 use crate::sub::sub_rule;
-use crate::turn::Turn;
-use crate::turn::turn_of;
 use arena::Step;
 use format::Bin;
 use format::Node;
 use format::Un;
+use settle::rule::plain_one;
+use settle::rule::plain_two;
+use settle::turn::Turn;
+use settle::turn::turn_of;
 
 // Node i, whose child j has become a.
 fn after_one(

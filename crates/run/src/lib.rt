@@ -1,9 +1,6 @@
-// The rewriting: dispatch simplifies a node's children, the rules decide, and one writer carries their decisions out.
+// The rewriting: dispatch simplifies a node's children, and the rules that simplify again call dispatch in their turn.
 mod add;
 pub mod dispatch;
-mod rule;
-mod settle;
 mod sign_extend;
 mod step;
 mod sub;
-mod turn;

@@ -1,13 +1,13 @@
 // SignExtend: what it rebuilds is simplified again.
 ghost use Rattle.arena.specs.Live.{Live};
 ghost use Rattle.arena.specs.Ended.{Ended};
-ghost use Rattle.run.specs.Visits.{OneAt, oneWhole};
+ghost use Rattle.settle.specs.Visits.{OneAt, oneWhole};
 use crate::dispatch::visit;
-use crate::rule::Outcome;
-use crate::rule::one_rule;
 use crate::step::anew;
 use arena::Step;
 use format::Un;
+use settle::rule::Outcome;
+use settle::rule::one_rule;
 
 pub fn sext_rule(words: &mut [u64], count: usize, i: usize, size: u64, j: usize, a: usize) -> Step
     requires { ⌜ Live (now words) count ⌝ }

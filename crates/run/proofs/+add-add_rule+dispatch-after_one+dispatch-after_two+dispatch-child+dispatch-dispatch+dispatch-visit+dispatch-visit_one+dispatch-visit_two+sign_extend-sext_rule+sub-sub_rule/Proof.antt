@@ -16,10 +16,10 @@ use Rattle.arena.specs.LiveLaws.{node-inside}
 use Rattle.format.specs.declared.Bin.{Bin}
 use Rattle.format.specs.declared.Un.{Un}
 use Rattle.rules.specs.Run.{isSub, weight}
-use Rattle.run.specs.Chains.{unary-child, unary-lighter, unary-unfinished, unary-ended, binary-children, right-lighter, binary-lighter, left-unfinished, right-unfinished, binary-ended}
+use Rattle.settle.specs.Chains.{unary-child, unary-lighter, unary-unfinished, unary-ended, binary-children, right-lighter, binary-lighter, left-unfinished, right-unfinished, binary-ended}
 use Rattle.run.specs.Ready.{new-top, one-at, two-at, top-read, one-ready, right-child, two-ready, ended-top, ended-entry, ended-const, ended-bind, child-is-itself, one-child-ready, left-child-ready, right-child-ready}
-use Rattle.run.specs.Turns.{turn-add, turn-sub}
-use Rattle.run.specs.Visits.{one-again-ended, one-again-falls, one-again-over-normal, two-again-ended, two-again-falls, two-again-over-normal}
+use Rattle.settle.specs.Turns.{turn-add, turn-sub}
+use Rattle.settle.specs.Visits.{one-again-ended, one-again-falls, one-again-over-normal, two-again-ended, two-again-falls, two-again-over-normal}
 use Rattle.tree.specs.Arena.{nodesOf}
 use Rattle.tree.specs.Tree.{unary, binary, isTop}
 use Rattle.run.proofs.+add-add_rule+dispatch-after_one+dispatch-after_two+dispatch-child+dispatch-dispatch+dispatch-visit+dispatch-visit_one+dispatch-visit_two+sign_extend-sext_rule+sub-sub_rule.Lts-add-add_rule as add-rule-lts
@@ -50,16 +50,16 @@ use Rattle.run.proofs.dispatch.visit_one.Kinds as visit-one-kinds
 use Rattle.run.proofs.dispatch.visit_one.Reads as visit-one
 use Rattle.run.proofs.dispatch.visit_two.Kinds as visit-two-kinds
 use Rattle.run.proofs.dispatch.visit_two.Reads as visit-two
-use Rattle.run.proofs.rule.one_rule.Reads as one-rule-reads
-use Rattle.run.proofs.rule.plain_one.Reads as plain-one-reads
-use Rattle.run.proofs.rule.plain_two.Reads as plain-two-reads
-use Rattle.run.proofs.rule.two_rule.Reads as two-rule-reads
+use Rattle.settle.proofs.rule.one_rule.Reads as one-rule-reads
+use Rattle.settle.proofs.rule.plain_one.Reads as plain-one-reads
+use Rattle.settle.proofs.rule.plain_two.Reads as plain-two-reads
+use Rattle.settle.proofs.rule.two_rule.Reads as two-rule-reads
 use Rattle.run.proofs.sign_extend.sext_rule.Kinds as sext-rule-kinds
 use Rattle.run.proofs.sign_extend.sext_rule.Reads as sext-rule
 use Rattle.run.proofs.step.anew.Reads as anew-reads
 use Rattle.run.proofs.sub.sub_rule.Kinds as sub-rule-kinds
 use Rattle.run.proofs.sub.sub_rule.Reads as sub-rule
-use Rattle.run.proofs.turn.turn_of.Reads as turn-of-reads
+use Rattle.settle.proofs.turn.turn_of.Reads as turn-of-reads
 
 abbrev μ-add-rule : Measures 1 add-rule-kinds.ps ℕ
 μ-add-rule κs a = 5 * weight (binary Bin.Add (a .1 .1 .1 .0) (treeOf (a .1 .0) (a .0 .now) (a .1 .1 .1 .1 .1 .1 .0)) (treeOf (a .1 .0) (a .0 .now) (a .1 .1 .1 .1 .1 .1 .1 .0)))

@@ -2,7 +2,7 @@
 use borrow.Author.Needs.{needs}
 use mathlib.Core.Path.{_∙_}
 use Rattle.rules.specs.Call.{ranOn}
-use Rattle.run.specs.Chains.{after-run}
+use Rattle.settle.specs.Chains.{after-run}
 use Rattle.simplifier.specs.Left.{done-answer, done-words, none-answer, none-words}
 use Rattle.simplifier.proofs.calls.rewrite.Statement.{statement}
 use Rattle.simplifier.proofs.calls.rewrite.Tie as tie

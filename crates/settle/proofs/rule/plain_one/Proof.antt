@@ -2,9 +2,9 @@
 use borrow.Author.Needs.{needs}
 use Rattle.arena.specs.Live.{treeOf}
 use Rattle.format.specs.Truth.{not-both}
-use Rattle.run.specs.Turns.{un-plain}
-use Rattle.run.proofs.rule.plain_one.Statement.{statement}
-use Rattle.run.proofs.rule.plain_one.Tie as tie
+use Rattle.settle.specs.Turns.{un-plain}
+use Rattle.settle.proofs.rule.plain_one.Statement.{statement}
+use Rattle.settle.proofs.rule.plain_one.Tie as tie
 
 one-rule-requires : tie.Need-one-rule-requires
 one-rule-requires c κs = search needs

@@ -2,10 +2,10 @@
 use borrow.Author.Needs.{needs}
 use mathlib.Core.Path.{refl}
 use Rattle.acts.specs.Decided.{un-over-size}
-use Rattle.run.specs.Settled.{settles-unary}
-use Rattle.run.specs.Visits.{one-ran}
-use Rattle.run.proofs.rule.one_rule.Statement.{statement}
-use Rattle.run.proofs.rule.one_rule.Tie as tie
+use Rattle.settle.specs.Settled.{settles-unary}
+use Rattle.settle.specs.Visits.{one-ran}
+use Rattle.settle.proofs.rule.one_rule.Statement.{statement}
+use Rattle.settle.proofs.rule.one_rule.Tie as tie
 
 un-act-requires : tie.Need-un-act-requires
 un-act-requires c κs = search needs

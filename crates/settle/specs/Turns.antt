@@ -13,7 +13,7 @@ use Rattle.rules.specs.declared.Beside.{Beside}
 use Rattle.rules.specs.declared.Constants.{Constants}
 use Rattle.rules.specs.declared.Equals.{Equals}
 use Rattle.rules.specs.declared.View.{View}
-use Rattle.run.specs.declared.turn.Turn.{Turn}
+use Rattle.settle.specs.declared.turn.Turn.{Turn}
 use Rattle.theory.specs.Visits.{redoes}
 use Rattle.tree.specs.Tree.{Tree, size, same}
 

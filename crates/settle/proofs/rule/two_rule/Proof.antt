@@ -2,10 +2,10 @@
 use borrow.Author.Needs.{needs}
 use mathlib.Core.Path.{refl}
 use Rattle.acts.specs.Decided.{over-size}
-use Rattle.run.specs.Settled.{settles-binary}
-use Rattle.run.specs.Visits.{two-ran}
-use Rattle.run.proofs.rule.two_rule.Statement.{statement}
-use Rattle.run.proofs.rule.two_rule.Tie as tie
+use Rattle.settle.specs.Settled.{settles-binary}
+use Rattle.settle.specs.Visits.{two-ran}
+use Rattle.settle.proofs.rule.two_rule.Statement.{statement}
+use Rattle.settle.proofs.rule.two_rule.Tie as tie
 
 bin-act-requires : tie.Need-bin-act-requires
 bin-act-requires c κs = search needs

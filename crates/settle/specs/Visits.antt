@@ -15,8 +15,8 @@ use Rattle.format.specs.declared.Un.{Un}
 use Rattle.rules.specs.Rules.{binAct, unAct}
 use Rattle.rules.specs.Run.{Out, append, keptAs, unaryRun, binaryRun, weight, simplified}
 use Rattle.rules.specs.declared.Act.{Act}
-use Rattle.run.specs.Chains.{two-unfinished, two-done, two-again, two-falls, two-redo-over-normal, one-unfinished, one-done, one-again, one-redo-falls, one-redo-over-normal}
-use Rattle.run.specs.declared.rule.Outcome.{Outcome}
+use Rattle.settle.specs.Chains.{two-unfinished, two-done, two-again, two-falls, two-redo-over-normal, one-unfinished, one-done, one-again, one-redo-falls, one-redo-over-normal}
+use Rattle.settle.specs.declared.rule.Outcome.{Outcome}
 use Rattle.theory.specs.Normal.{Normal}
 use Rattle.theory.specs.Visits.{redoes, carried, OverNormal}
 use Rattle.tree.specs.Arena.{nodeAt, nodesOf}

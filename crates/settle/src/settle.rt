@@ -5,7 +5,7 @@ ghost use Rattle.tree.specs.Arena.{nodesOf};
 ghost use Rattle.arena.specs.Live.{Live};
 ghost use Rattle.arena.specs.Ended.{Ended};
 ghost use Rattle.arith.specs.Operands.{Size};
-ghost use Rattle.run.specs.Settled.{overOf, settled, Settles};
+ghost use Rattle.settle.specs.Settled.{overOf, settled, Settles};
 use arena::Step;
 use format::Bin;
 use format::Node;

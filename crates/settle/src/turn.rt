@@ -1,6 +1,6 @@
 // Which rules of two children simplify again.
 ghost use mathlib.Core.Path.{_≡_};
-ghost use Rattle.run.specs.Turns.{turnOf};
+ghost use Rattle.settle.specs.Turns.{turnOf};
 use format::Bin;
 
 // Which rules of two children simplify again what they have rebuilt.

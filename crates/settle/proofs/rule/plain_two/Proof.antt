@@ -2,9 +2,9 @@
 use borrow.Author.Needs.{needs}
 use Rattle.arena.specs.Live.{treeOf}
 use Rattle.format.specs.Truth.{not-both}
-use Rattle.run.specs.Turns.{bin-plain}
-use Rattle.run.proofs.rule.plain_two.Statement.{statement}
-use Rattle.run.proofs.rule.plain_two.Tie as tie
+use Rattle.settle.specs.Turns.{bin-plain}
+use Rattle.settle.proofs.rule.plain_two.Statement.{statement}
+use Rattle.settle.proofs.rule.plain_two.Tie as tie
 
 two-rule-requires : tie.Need-two-rule-requires
 two-rule-requires c κs = search needs

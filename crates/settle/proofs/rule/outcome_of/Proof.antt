@@ -1,8 +1,8 @@
 -- How a rule's action was carried out. Assumes nothing.
 use borrow.Author.Needs.{needs}
-use Rattle.run.specs.Visits.{no-room-either}
-use Rattle.run.proofs.rule.outcome_of.Statement.{statement}
-use Rattle.run.proofs.rule.outcome_of.Tie as tie
+use Rattle.settle.specs.Visits.{no-room-either}
+use Rattle.settle.proofs.rule.outcome_of.Statement.{statement}
+use Rattle.settle.proofs.rule.outcome_of.Tie as tie
 
 enum-told : tie.Need-enum-told
 enum-told c = search needs

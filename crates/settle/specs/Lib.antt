@@ -1,0 +1,4 @@
+pub mod Chains
+pub mod Settled
+pub mod Turns
+pub mod Visits
