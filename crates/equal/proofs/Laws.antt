@@ -1,22 +1,20 @@
 -- Two trees are equal exactly where their nodes are alike and their children's trees are equal. Assumes nothing.
-use mathlib.Core.Bool.{Bool, true, false, not, _&&_, _||_}
+use mathlib.Core.Bool.{Bool, true, false, _&&_}
 use mathlib.Core.List.{List}
 use mathlib.Core.Path.{_≡_, refl, ap, ap₂, sym, _∙_}
-use Prim.Native.Nat.{ℕ, _≤_, _<_}
-use native.Mathlib.Decide.{decLt}
+use Prim.Native.Nat.{ℕ, _<_}
 use native.Mathlib.Omega.{arith}
 use lib.Dec.{eqb}
 use borrow.Author.Tests.{eq-eqb, eqb-true}
-use Rattle.arena.specs.Live.{Live, Good, treeOf}
+use Rattle.arena.specs.Live.{Live, treeOf}
 use Rattle.arena.specs.LiveLaws.{tree-of-node, below-at}
-use Rattle.equal.specs.Alike.{labelOf, alikeAt, ChildrenOf}
-use Rattle.equal.specs.declared.Children.{Children}
+use Rattle.equal.specs.Alike.{labelOf, alikeAt}
 use Rattle.format.specs.Header.{header, kindOf, sizeOf, leftOf, rightOf, spaceOf, InFields, fields-of-header}
-use Rattle.format.specs.KindRules.{arityOf, row-ruled, un-number-known, bin-number-known}
-use Rattle.format.specs.Kinds.{kindCount, rowOf, shapeOf, unNumber, binNumber}
+use Rattle.format.specs.KindRules.{un-number-known, bin-number-known}
+use Rattle.format.specs.Kinds.{shapeOf, unNumber, binNumber}
 use Rattle.format.specs.Limits.{headerAt, payloadAt}
 use Rattle.format.specs.Nodes.{nodeOf, shaped, headerOf, payloadOf, Narrow}
-use Rattle.format.specs.NodesOfWords.{node-of-unknown, field-narrow, narrow-of-words}
+use Rattle.format.specs.NodesOfWords.{field-narrow, narrow-of-words}
 use Rattle.format.specs.Truth.{and-left, and-right, not-both}
 use Rattle.format.specs.declared.Node.{Node}
 use Rattle.format.specs.declared.Shape.{Shape}
@@ -80,67 +78,61 @@ module _ (tree : ℕ → Tree) where
   payload-of-node (Node.Unary op size left) = refl
   payload-of-node (Node.Binary op size left right) = refl
 
--- NODES OF ONE SHAPE
+-- NODES THAT DIFFER IN THEIR CHILDREN
 
--- whether as many children as there are agree
-abbrev pub sameChildren : (arity : ℕ) → (left right : Bool) → Bool
-sameChildren arity left right = eqb arity 0 || (left && (not (eqb arity 2) || right))
+-- a node with other children
+abbrev pub over : (left right : ℕ) → Node → Node
+over left right Node.Top = Node.Top
+over left right (Node.Entry size space offset) = Node.Entry size space offset
+over left right (Node.Const size value) = Node.Const size value
+over left right (Node.Bind size id) = Node.Bind size id
+over left right (Node.Unary op size _) = Node.Unary op size left
+over left right (Node.Binary op size _ _) = Node.Binary op size left right
+
+-- the node of a word that agrees has that word's children
+over-own : (word word′ payload : ℕ) → Agree word word′ → (shape : Shape) →
+    shaped shape word′ payload ≡ over (leftOf word′) (rightOf word′) (shaped shape word payload)
+over-own word word′ payload agreed Shape.Top = refl
+over-own word word′ payload agreed Shape.Entry = rw (agreed .size, agreed .space)
+over-own word word′ payload agreed Shape.Const = rw (agreed .size)
+over-own word word′ payload agreed Shape.Bind = rw (agreed .size)
+over-own word word′ payload agreed (Shape.Unary op) = rw (agreed .size)
+over-own word word′ payload agreed (Shape.Binary op) = rw (agreed .size)
 
 -- `same` is any truth value that decides whether two trees are equal
 same-by : (a b : Tree) (decided : Bool) → (a ≡ b → decided ≡ true) → (decided ≡ true → a ≡ b) → same a b ≡ decided
 same-by a b true to from = same-yes a b (from refl)
 same-by a b false to from = same-no a b (λ e. not-both (to e) refl)
 
-module _ (tree : ℕ → Tree) (word word′ payload : ℕ) (agreed : Agree word word′) where
-  abbrev left : Tree
-  left = tree (leftOf word)
+module _ (tree : ℕ → Tree) (left′ right′ : ℕ) where
+  -- whether the other children, as many as a node has, stand for the same trees
+  abbrev pub sameChildren : Node → Bool
+  sameChildren Node.Top = true
+  sameChildren (Node.Entry size space offset) = true
+  sameChildren (Node.Const size value) = true
+  sameChildren (Node.Bind size id) = true
+  sameChildren (Node.Unary op size left) = same (tree left) (tree left′)
+  sameChildren (Node.Binary op size left right) = same (tree left) (tree left′) && same (tree right) (tree right′)
 
-  abbrev left′ : Tree
-  left′ = tree (leftOf word′)
-
-  abbrev right : Tree
-  right = tree (rightOf word)
-
-  abbrev right′ : Tree
-  right′ = tree (rightOf word′)
-
-  same-shaped : (shape : Shape) →
-      same (build tree (shaped shape word payload)) (build tree (shaped shape word′ payload))
-      ≡ sameChildren (arityOf shape) (same left left′) (same right right′)
-  same-shaped Shape.Top = same-yes _ _ refl
-  same-shaped Shape.Entry = same-yes _ _ (cc)
-  same-shaped Shape.Const = same-yes _ _ (cc)
-  same-shaped Shape.Bind = same-yes _ _ (cc)
-  same-shaped (Shape.Unary op) =
-      same-by _ _ (same left left′ && true) (λ e. rw (same-yes left left′ (cc)))
-      (λ e. cc (same-eq left left′ (and-left (same left left′) true e)))
-  same-shaped (Shape.Binary op) =
-      same-by _ _ (same left left′ && same right right′) (λ e. rw (same-yes left left′ (cc), same-yes right right′ (cc)))
+  same-over : (node : Node) → same (build tree node) (build tree (over left′ right′ node)) ≡ sameChildren node
+  same-over Node.Top = same-yes _ _ refl
+  same-over (Node.Entry size space offset) = same-yes _ _ refl
+  same-over (Node.Const size value) = same-yes _ _ refl
+  same-over (Node.Bind size id) = same-yes _ _ refl
+  same-over (Node.Unary op size left) =
+      same-by _ _ (same (tree left) (tree left′)) (λ e. same-yes (tree left) (tree left′) (cc))
+      (λ e. cc (same-eq (tree left) (tree left′) e))
+  same-over (Node.Binary op size left right) =
+      let lefts : Bool = same (tree left) (tree left′) in
+      let rights : Bool = same (tree right) (tree right′) in
+      same-by _ _ (lefts && rights)
+      (λ e. rw (same-yes (tree left) (tree left′) (cc), same-yes (tree right) (tree right′) (cc)))
       (λ e. cc (
-        same-eq left left′ (and-left (same left left′) (same right right′) e),
-        same-eq right right′ (and-right (same left left′) (same right right′) e),
+        same-eq (tree left) (tree left′) (and-left lefts rights e),
+        same-eq (tree right) (tree right′) (and-right lefts rights e),
       ))
 
-children-below : (i word payload : ℕ) (shape : Shape) → Below i (shaped shape word payload) →
-    (1 ≤ arityOf shape → leftOf word < i) × (2 ≤ arityOf shape → rightOf word < i)
-children-below i word payload Shape.Top b = omega arith
-children-below i word payload Shape.Entry b = omega arith
-children-below i word payload Shape.Const b = omega arith
-children-below i word payload Shape.Bind b = omega arith
-children-below i word payload (Shape.Unary op) b = omega arith
-children-below i word payload (Shape.Binary op) b = omega arith
-
 -- NODES OF A LIVE ARENA
-
--- an unknown kind would read as Top, whose header has kind 0
-pub kind-known : {words : List ℕ} {i : ℕ} → Good words i → kindOf (headerAt words i) < kindCount
-kind-known {words} {i} good = go (decLt (kindOf (headerAt words i)) kindCount)
-  where
-    go : Dec (kindOf (headerAt words i) < kindCount) → kindOf (headerAt words i) < kindCount
-    go (yes p) = p
-    go (no p) =
-        let unknown : nodeAt words i ≡ Node.Top = node-of-unknown (headerAt words i) (payloadAt words i) (omega arith) in
-        omega (arith, ap kindOf (sym (good .header-is) ∙ ap headerOf unknown))
 
 module _ {words : List ℕ} {count : ℕ} (live : Live words count) where
   abbrev tree : ℕ → Tree
@@ -170,72 +162,42 @@ module _ {words : List ℕ} {count : ℕ} (live : Live words count) where
       same (treeOf count words i) (treeOf count words j) ≡ false
   unlike-differ i j hi hj u = same-no _ _ (λ e. not-both (equal-alike i j hi hj e) u)
 
--- alike nodes i and j of a live arena, with their children a and b
-pub record Matched (words : List ℕ) (count i j : ℕ) (a b : Children) : Type 0 where
+-- alike nodes i and j of a live arena: the one is `node`, the other has the header `other`
+pub record Matched (words : List ℕ) (count i j : ℕ) (node : Node) (other : ℕ) : Type 0 where
   pub live : Live words count
   pub i-inside : i < count
   pub j-inside : j < count
   pub alike : alikeAt words i j ≡ true
-  pub i-children : ChildrenOf (headerAt words i) a
-  pub j-children : ChildrenOf (headerAt words j) b
+  pub node-is : nodeAt words i ≡ node
+  pub other-is : headerAt words j ≡ other
 
-module _ {words : List ℕ} {count i j : ℕ} {a b : Children} (m : Matched words count i j a b) where
-  abbrev word : ℕ
-  word = headerAt words i
-
-  abbrev word′ : ℕ
-  word′ = headerAt words j
-
+module _ {words : List ℕ} {count i j : ℕ} {node : Node} {other : ℕ} (m : Matched words count i j node other) where
   abbrev labels : Bool
-  labels = eqb (labelOf word) (labelOf word′)
+  labels = eqb (labelOf (headerAt words i)) (labelOf (headerAt words j))
 
   abbrev payloads : Bool
   payloads = eqb (payloadAt words i) (payloadAt words j)
 
-  agreed : Agree word word′
-  agreed = agree word word′ (eqb-true _ _ (and-left labels payloads (m .alike)))
+  agreed : Agree (headerAt words i) (headerAt words j)
+  agreed = agree _ _ (eqb-true _ _ (and-left labels payloads (m .alike)))
 
   payload : payloadAt words i ≡ payloadAt words j
   payload = eqb-true _ _ (and-right labels payloads (m .alike))
 
-  -- both nodes have the first one's shape
-  abbrev shape : Shape
-  shape = shapeOf (kindOf word)
-
-  arity-is : a .arity ≡ arityOf shape
-  arity-is = m .i-children .arity-is ∙ row-ruled (kindOf word) (kind-known (m .live .good i (m .i-inside))) .arity-is
-
-  node-i : nodeAt words i ≡ shaped shape word (payloadAt words i)
+  read-j : nodeAt words j ≡ over (leftOf (headerAt words j)) (rightOf (headerAt words j)) (nodeAt words i)
   unfolding nodeOf
-  node-i = refl
+  read-j =
+      ap₂ (λ (kind p : ℕ). shaped (shapeOf kind) (headerAt words j) p) (sym (agreed .kind)) (sym payload)
+      ∙ over-own (headerAt words i) (headerAt words j) (payloadAt words i) agreed (shapeOf (kindOf (headerAt words i)))
 
-  node-j : nodeAt words j ≡ shaped shape word′ (payloadAt words i)
-  unfolding nodeOf
-  node-j = ap₂ (λ (kind p : ℕ). shaped (shapeOf kind) word′ p) (sym (agreed .kind)) (sym payload)
+  node-j : nodeAt words j ≡ over (leftOf other) (rightOf other) node
+  node-j = rw (← m .node-is, ← m .other-is) read-j
 
-  below-i : (1 ≤ arityOf shape → leftOf word < i) × (2 ≤ arityOf shape → rightOf word < i)
-  below-i = children-below i word (payloadAt words i) shape (below-at (m .live) i (m .i-inside) _ node-i)
-
-  below-j : (1 ≤ arityOf shape → leftOf word′ < j) × (2 ≤ arityOf shape → rightOf word′ < j)
-  below-j = children-below j word′ (payloadAt words i) shape (below-at (m .live) j (m .j-inside) _ node-j)
-
-  pub left-below : (a .arity ≡ 0 → ⊥) → (a .left < i) × (b .left < j)
-  left-below some =
-      let one : 1 ≤ arityOf shape = omega (arith, arity-is) in
-      omega (arith, below-i .0 one, below-j .0 one)
-
-  pub both-below : a .arity ≡ 2 → (a .left < i) × (a .right < i) × (b .left < j) × (b .right < j)
-  both-below two =
-      let left : (a .left < i) × (b .left < j) = left-below (omega arith) in
-      let more : 2 ≤ arityOf shape = omega (arith, arity-is) in
-      omega (arith, below-i .1 more, below-j .1 more)
+  pub both-below : Below i node × Below j (over (leftOf other) (rightOf other) node)
+  both-below = (below-at (m .live) i (m .i-inside) node (m .node-is), below-at (m .live) j (m .j-inside) _ node-j)
 
   pub alike-same :
-      same (treeOf count words i) (treeOf count words j)
-      ≡ sameChildren (a .arity)
-      (same (treeOf count words (a .left)) (treeOf count words (b .left)))
-      (same (treeOf count words (a .right)) (treeOf count words (b .right)))
+      same (treeOf count words i) (treeOf count words j) ≡ sameChildren (treeOf count words) (leftOf other) (rightOf other) node
   alike-same =
-      rw (arity-is, m .i-children .left-is, m .j-children .left-is, m .i-children .right-is, m .j-children .right-is)
-      (ap₂ same (tree-of-node (m .live) i (m .i-inside) _ node-i) (tree-of-node (m .live) j (m .j-inside) _ node-j)
-      ∙ same-shaped (treeOf count words) word word′ (payloadAt words i) agreed shape)
+      ap₂ same (tree-of-node (m .live) i (m .i-inside) node (m .node-is)) (tree-of-node (m .live) j (m .j-inside) _ node-j)
+      ∙ same-over (treeOf count words) (leftOf other) (rightOf other) node

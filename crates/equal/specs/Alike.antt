@@ -1,12 +1,9 @@
 -- What the words of two nodes say of whether their trees are equal. Assumes nothing: these are definitions.
 use mathlib.Core.Bool.{Bool, _&&_}
 use mathlib.Core.List.{List}
-use mathlib.Core.Path.{_≡_}
 use Prim.Native.Nat.{ℕ}
 use lib.Dec.{eqb}
-use Rattle.equal.specs.declared.Children.{Children}
-use Rattle.format.specs.Header.{header, kindOf, sizeOf, leftOf, rightOf, spaceOf}
-use Rattle.format.specs.Kinds.{rowOf}
+use Rattle.format.specs.Header.{header, kindOf, sizeOf, spaceOf}
 use Rattle.format.specs.Limits.{headerAt, payloadAt}
 
 -- a header without its children: kind, size and space
@@ -17,9 +14,3 @@ labelOf word = header (kindOf word) (sizeOf word) 0 0 (spaceOf word)
 abbrev pub alikeAt : List ℕ → (i j : ℕ) → Bool
 alikeAt words i j =
     eqb (labelOf (headerAt words i)) (labelOf (headerAt words j)) && eqb (payloadAt words i) (payloadAt words j)
-
--- the children that a header names
-pub record ChildrenOf (word : ℕ) (children : Children) : Type 0 where
-  pub arity-is : children .arity ≡ rowOf (kindOf word) .arity
-  pub left-is : children .left ≡ leftOf word
-  pub right-is : children .right ≡ rightOf word

@@ -2,22 +2,13 @@
 ghost use mathlib.Core.Path.{_≡_};
 ghost use Prim.Native.Nat.{_+_, _*_, _<_};
 ghost use lib.ListN.{length};
-ghost use Rattle.format.specs.Header.{kindOf};
-ghost use Rattle.format.specs.Kinds.{kindCount};
 ghost use Rattle.format.specs.Limits.{nodeWords, headerAt, payloadAt};
 ghost use Rattle.tree.specs.Tree.{same as sameTree};
 ghost use Rattle.arena.specs.Live.{Live, treeOf};
-ghost use Rattle.equal.specs.Alike.{labelOf, alikeAt, ChildrenOf};
+ghost use Rattle.equal.specs.Alike.{labelOf, alikeAt};
+use format::Node;
 use words::NODE_WORDS;
 use words::fields;
-use words::kinds;
-
-// How many children a node has, and where they are.
-struct Children {
-    arity: u8,
-    left: usize,
-    right: usize,
-}
 
 fn header_at(words: &[u64], i: usize) -> u64
     requires { ⌜ nodeWords * i + 1 < length (now words) ⌝ }
@@ -52,19 +43,6 @@ fn alike(words: &[u64], i: usize, j: usize) -> bool
     false
 }
 
-fn children_at(words: &[u64], i: usize) -> Children
-    requires { ⌜ (nodeWords * i + 1 < length (now words)) × (kindOf (headerAt (now words) i) < kindCount) ⌝ }
-    ensures { λ r. ⌜ ChildrenOf (headerAt (now (words .entry)) i) r ⌝ }
-{
-    let word = header_at(words, i);
-    let row = kinds::row_of(fields::kind_of(word));
-    Children {
-        arity: row.arity,
-        left: fields::left_of(word),
-        right: fields::right_of(word),
-    }
-}
-
 pub fn same(words: &[u64], count: usize, i: usize, j: usize) -> bool
     requires { ⌜ Live (now words) count ⌝ }
     requires { ⌜ (i < count) × (j < count) ⌝ }
@@ -73,16 +51,18 @@ pub fn same(words: &[u64], count: usize, i: usize, j: usize) -> bool
     if !alike(words, i, j) {
         return false;
     }
-    let a = children_at(words, i);
-    let b = children_at(words, j);
-    if a.arity == 0 {
-        return true;
+    let other = header_at(words, j);
+    match arena::node_at(words, i) {
+        Node::Top => true,
+        Node::Entry(_, _, _) => true,
+        Node::Const(_, _) => true,
+        Node::Bind(_, _) => true,
+        Node::Unary(_, _, left) => same(words, count, left, fields::left_of(other)),
+        Node::Binary(_, _, left, right) => {
+            if !same(words, count, left, fields::left_of(other)) {
+                return false;
+            }
+            same(words, count, right, fields::right_of(other))
+        }
     }
-    if !same(words, count, a.left, b.left) {
-        return false;
-    }
-    if a.arity == 2 {
-        return same(words, count, a.right, b.right);
-    }
-    true
 }

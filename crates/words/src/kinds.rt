@@ -1,6 +1,6 @@
 // The kinds by number: the one table that drives the check of form and sizes, and the shapes that nodes are read by.
 ghost use mathlib.Core.Path.{_≡_};
-ghost use Prim.Native.Nat.{_<_};
+ghost use Prim.Native.Nat.{_<_, _≤_};
 ghost use Rattle.format.specs.Kinds.{shapeOf, rowOf, unNumber, binNumber, kindCount};
 use crate::KIND_COUNT;
 use format::Bin;
@@ -101,7 +101,27 @@ pub fn row_of(kind: usize) -> Row
     KINDS[kind]
 }
 
-// A number that is no kind's has Top's shape.
+// The operator of a kind of two children, whose number is one from 4 to 15 other than 12.
+fn bin_of(kind: usize) -> Bin
+    requires { ⌜ (4 ≤ kind) × (kind < 16) × (kind ≡ 12 → ⊥) ⌝ }
+    ensures { λ r. ⌜ shapeOf kind ≡ Shape.Binary r ⌝ }
+{
+    match kind {
+        5 => Bin::Sub,
+        6 => Bin::Mul,
+        7 => Bin::Xor,
+        8 => Bin::Or,
+        9 => Bin::IntLeftShift,
+        10 => Bin::IntRightShift,
+        11 => Bin::IntSignedRightShift,
+        13 => Bin::IntCarry,
+        14 => Bin::IntSCarry,
+        15 => Bin::IntSBorrow,
+        _ => Bin::Add,
+    }
+}
+
+// A number that is no kind's has Top's shape. The operators of two children are read off a table, with no jump for each of them.
 pub fn shape_of(kind: usize) -> Shape
     ensures { λ r. ⌜ r ≡ shapeOf kind ⌝ }
 {
@@ -110,20 +130,14 @@ pub fn shape_of(kind: usize) -> Shape
         1 => Shape::Entry,
         2 => Shape::Const,
         3 => Shape::Bind,
-        4 => Shape::Binary(Bin::Add),
-        5 => Shape::Binary(Bin::Sub),
-        6 => Shape::Binary(Bin::Mul),
-        7 => Shape::Binary(Bin::Xor),
-        8 => Shape::Binary(Bin::Or),
-        9 => Shape::Binary(Bin::IntLeftShift),
-        10 => Shape::Binary(Bin::IntRightShift),
-        11 => Shape::Binary(Bin::IntSignedRightShift),
         12 => Shape::Unary(Un::SignExtend),
-        13 => Shape::Binary(Bin::IntCarry),
-        14 => Shape::Binary(Bin::IntSCarry),
-        15 => Shape::Binary(Bin::IntSBorrow),
         16 => Shape::Unary(Un::Int2Comp),
-        _ => Shape::Top,
+        _ => {
+            if kind < 16 {
+                return Shape::Binary(bin_of(kind));
+            }
+            Shape::Top
+        }
     }
 }
 

@@ -10,18 +10,15 @@ use format::Shape;
 fn shaped_node(shape: Shape, word: u64, payload: u64) -> Node
     ensures { λ r. ⌜ r ≡ shaped shape word payload ⌝ }
 {
+    let size = fields::size_of(word);
+    let left = fields::left_of(word);
     match shape {
         Shape::Top => Node::Top,
-        Shape::Entry => Node::Entry(fields::size_of(word), fields::space_of(word), payload),
-        Shape::Const => Node::Const(fields::size_of(word), payload),
-        Shape::Bind => Node::Bind(fields::size_of(word), payload),
-        Shape::Unary(op) => Node::Unary(op, fields::size_of(word), fields::left_of(word)),
-        Shape::Binary(op) => Node::Binary(
-            op,
-            fields::size_of(word),
-            fields::left_of(word),
-            fields::right_of(word),
-        ),
+        Shape::Entry => Node::Entry(size, fields::space_of(word), payload),
+        Shape::Const => Node::Const(size, payload),
+        Shape::Bind => Node::Bind(size, payload),
+        Shape::Unary(op) => Node::Unary(op, size, left),
+        Shape::Binary(op) => Node::Binary(op, size, left, fields::right_of(word)),
     }
 }
 
