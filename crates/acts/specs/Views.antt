@@ -1,12 +1,18 @@
 -- What nodes and views show of a constant. Assumes nothing.
-use mathlib.Core.Option.{Option, some, none}
+use mathlib.Core.Bool.{cond}
 use mathlib.Core.List.{List}
+use mathlib.Core.Option.{Option, some, none}
 use mathlib.Core.Path.{_≡_, refl, ap, _∙_}
 use Prim.Native.Nat.{ℕ, _<_}
-use Rattle.arena.specs.Live.{Live, treeOf}
+use Rattle.arena.specs.Live.{Live, treeOf, nodeIsConst}
 use Rattle.arena.specs.LiveLaws.{tree-of-node}
+use Rattle.format.specs.Header.{kindOf}
+use Rattle.format.specs.Kinds.{shapeOf}
+use Rattle.format.specs.Limits.{headerAt, payloadAt}
+use Rattle.format.specs.Nodes.{nodeOf, shaped}
 use Rattle.format.specs.declared.Bin.{Bin}
 use Rattle.format.specs.declared.Node.{Node}
+use Rattle.format.specs.declared.Shape.{Shape}
 use Rattle.format.specs.declared.Un.{Un}
 use Rattle.rules.specs.Rules.{constantOf, binView, unView, view}
 use Rattle.rules.specs.declared.View.{View}
@@ -20,6 +26,21 @@ nodeConstant (Node.Const size value) = some value
 nodeConstant (Node.Bind size id) = none
 nodeConstant (Node.Unary op size left) = none
 nodeConstant (Node.Binary op size left right) = none
+
+-- a node that is a constant shows its payload, and another one nothing
+constant-of-shape : (word payload : ℕ) (shape : Shape) →
+    nodeConstant (shaped shape word payload) ≡ cond (nodeIsConst (shaped shape word payload)) (some payload) none
+constant-of-shape word payload Shape.Top = refl
+constant-of-shape word payload Shape.Entry = refl
+constant-of-shape word payload Shape.Const = refl
+constant-of-shape word payload Shape.Bind = refl
+constant-of-shape word payload (Shape.Unary op) = refl
+constant-of-shape word payload (Shape.Binary op) = refl
+
+pub payload-shown : (words : List ℕ) (i : ℕ) →
+    nodeConstant (nodeAt words i) ≡ cond (nodeIsConst (nodeAt words i)) (some (payloadAt words i)) none
+unfolding nodeOf
+payload-shown words i = constant-of-shape (headerAt words i) (payloadAt words i) (shapeOf (kindOf (headerAt words i)))
 
 abbrev pub viewConstant : View → Option ℕ
 viewConstant (View.Constant v) = some v

@@ -1,4 +1,5 @@
-// Add beside a constant.
+// Add: two constants fold (decide.rt), and one on the left is swapped to the right (`swaps` in beside.rt). Beside a constant, here:
+// 0 gives the other child, and a sum or difference with a constant of its own takes this one in, to be simplified again.
 ghost use mathlib.Core.Path.{_≡_};
 ghost use Rattle.rules.specs.Rules.{addBeside};
 use crate::beside::moved;

@@ -4,6 +4,7 @@ ghost use Rattle.arith.specs.Operands.{Size};
 ghost use Rattle.manual.specs.Operations.{intSub};
 ghost use Rattle.rules.specs.Rules.{ruleOf, moved as movedBy};
 use crate::add::add_beside;
+use crate::flags::flag_beside;
 use crate::mul::mul_beside;
 use crate::or::or_beside;
 use crate::shift::shift_beside;
@@ -40,9 +41,9 @@ pub fn beside(op: Bin, size: u64, e: View, n: u64) -> Beside
         Bin::IntLeftShift => shift_beside(n),
         Bin::IntRightShift => shift_beside(n),
         Bin::IntSignedRightShift => shift_beside(n),
-        Bin::IntCarry => Beside::Stay,
-        Bin::IntSCarry => Beside::Stay,
-        Bin::IntSBorrow => Beside::Stay,
+        Bin::IntCarry => flag_beside(),
+        Bin::IntSCarry => flag_beside(),
+        Bin::IntSBorrow => flag_beside(),
     }
 }
 

@@ -1,4 +1,4 @@
-// Int2Comp.
+// Int2Comp, all here: a constant folds, and a negation of a negation gives what the inner one negates.
 ghost use mathlib.Core.Path.{_≡_};
 ghost use Rattle.rules.specs.Rules.{negAct};
 ghost use Rattle.acts.specs.Operated.{ViewFits};

@@ -2,6 +2,7 @@
 mod add;
 mod beside;
 pub mod decide;
+mod flags;
 mod int2comp;
 mod mul;
 mod or;

@@ -1,4 +1,5 @@
-// Mul beside a constant.
+// Mul: a constant on the left is swapped to the right (`swaps` in beside.rt), and two fold (decide.rt). Beside a constant, here: 1
+// gives the other child, and 0 gives 0.
 ghost use mathlib.Core.Path.{_≡_};
 ghost use Rattle.rules.specs.Rules.{mulBeside};
 use rules::Beside;

@@ -1,4 +1,5 @@
-// Or beside a constant.
+// Or: a constant on the left is swapped to the right (`swaps` in beside.rt), and two fold (decide.rt). Equal trees give the left one
+// (`equals` in beside.rt). Beside a constant, here: 0 gives the other child, and all ones of the size give that constant.
 ghost use mathlib.Core.Path.{_≡_};
 ghost use Rattle.arith.specs.Operands.{Size};
 ghost use Rattle.rules.specs.Rules.{orBeside};

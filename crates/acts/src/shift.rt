@@ -1,4 +1,4 @@
-// The three shifts beside a constant, which is the amount.
+// IntLeftShift, IntRightShift and IntSignedRightShift: two constants fold (decide.rt). Beside a constant amount, here: 0 gives the value.
 ghost use mathlib.Core.Path.{_≡_};
 ghost use Rattle.rules.specs.Rules.{shiftBeside};
 use rules::Beside;

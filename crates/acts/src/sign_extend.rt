@@ -1,4 +1,5 @@
-// SignExtend, of a child of `child` bytes.
+// SignExtend, of a child of `child` bytes, all here: to the child's own size it gives the child; a constant folds; an extension of an
+// extension becomes one, to be simplified again.
 ghost use mathlib.Core.Path.{_≡_};
 ghost use mathlib.Core.Bool.{cond};
 ghost use lib.Dec.{eqb};

@@ -1,4 +1,6 @@
-// Sub beside a constant.
+// Sub: two constants fold (decide.rt). Beside a constant, here: 0 gives the left child, and a negative one makes an Add, to be simplified
+// again. Equal trees give 0 (`equals` in beside.rt). Here again: a sum or difference with a constant of its own takes this one in, to
+// be simplified again.
 ghost use mathlib.Core.Path.{_≡_};
 ghost use Rattle.rules.specs.Rules.{subBeside};
 use crate::beside::moved;

@@ -1,6 +1,10 @@
 // What a rule sees of its children.
 ghost use mathlib.Core.Path.{_≡_};
-ghost use Prim.Native.Nat.{_<_};
+ghost use mathlib.Core.Option.{some};
+ghost use Prim.Native.Nat.{_+_, _*_, _<_};
+ghost use lib.ListN.{length};
+ghost use Rattle.format.specs.Limits.{nodeWords};
+ghost use Rattle.tree.specs.Arena.{nodeAt};
 ghost use Rattle.rules.specs.Rules.{view, binView, unView, constants};
 ghost use Rattle.arena.specs.Live.{Live, treeOf};
 ghost use Rattle.acts.specs.Views.{nodeConstant, viewConstant};
@@ -28,13 +32,13 @@ fn plus_or_minus(op: Bin, a: u64) -> View
     }
 }
 
-ghost use mathlib.Core.Option.{some, none};
-
-fn bin_view(op: Bin, right: Node) -> View
-    ensures { λ r. ⌜ r ≡ binView op (nodeConstant right) ⌝ }
+// What an operator shows beside its right child, node `right`.
+fn bin_view(words: &[u64], op: Bin, right: usize) -> View
+    requires { ⌜ nodeWords * right + 1 < length (now words) ⌝ }
+    ensures { λ r. ⌜ r ≡ binView op (nodeConstant (nodeAt (now (words .entry)) right)) ⌝ }
 {
-    if let Node::Const(_, a) = right {
-        return plus_or_minus(op, a);
+    if arena::is_const(words, right) {
+        return plus_or_minus(op, arena::payload_at(words, right));
     }
     View::Other
 }
@@ -59,7 +63,7 @@ pub fn view_at(words: &[u64], count: usize, i: usize) -> View
         Node::Const(_, value) => View::Constant(value),
         Node::Bind(_, _) => View::Other,
         Node::Unary(op, size, _) => un_view(op, size),
-        Node::Binary(op, _, _, right) => bin_view(op, arena::node_at(words, right)),
+        Node::Binary(op, _, _, right) => bin_view(words, op, right),
     }
 }
 

@@ -54,11 +54,20 @@ shift-beside-requires-3 c κs = search needs
 enum-told-9 : tie.Need-enum-told-9
 enum-told-9 c = search needs
 
+flag-beside-requires : tie.Need-flag-beside-requires
+flag-beside-requires c κs = search needs
+
 enum-told-10 : tie.Need-enum-told-10
 enum-told-10 c = search needs
 
+flag-beside-requires-2 : tie.Need-flag-beside-requires-2
+flag-beside-requires-2 c κs = search needs
+
 enum-told-11 : tie.Need-enum-told-11
 enum-told-11 c = search needs
+
+flag-beside-requires-3 : tie.Need-flag-beside-requires-3
+flag-beside-requires-3 c κs = search needs
 
 returns : tie.Need-returns
 returns c = rw ((c .add-beside) .ensures, (c .before .enum-told) .given .1)
@@ -85,13 +94,13 @@ returns-8 : tie.Need-returns-8
 returns-8 c = rw ((c .shift-beside3) .ensures, (c .before .enum-told8) .given .1)
 
 returns-9 : tie.Need-returns-9
-returns-9 c = search needs
+returns-9 c = rw ((c .flag-beside) .ensures, (c .before .enum-told9) .given .1)
 
 returns-10 : tie.Need-returns-10
-returns-10 c = search needs
+returns-10 c = rw ((c .flag-beside2) .ensures, (c .before .enum-told10) .given .1)
 
 returns-11 : tie.Need-returns-11
-returns-11 c = search needs
+returns-11 c = rw ((c .flag-beside3) .ensures, (c .before .enum-told11) .given .1)
 
 pub beside-spec : {M : Type 1} → statement M
 beside-spec =
@@ -114,8 +123,11 @@ beside-spec =
     enum-told-8
     shift-beside-requires-3
     enum-told-9
+    flag-beside-requires
     enum-told-10
+    flag-beside-requires-2
     enum-told-11
+    flag-beside-requires-3
     returns
     returns-2
     returns-3

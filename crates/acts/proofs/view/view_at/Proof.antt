@@ -31,14 +31,11 @@ un-view-requires c κs = search needs
 enum-known-op-2 : tie.Need-enum-known-op-2
 enum-known-op-2 c = search needs
 
-node-at-requires-2 : tie.Need-node-at-requires-2
-node-at-requires-2 c κs =
+bin-view-requires : tie.Need-bin-view-requires
+bin-view-requires c κs =
     let b = below-at ((c .before .before .before .before .before .pre) .0) ((c .before .before .before .before .before .args) .i) ((c .before .before .before .before .before .pre) .1) _ (sym ((c .before .before .before .node-at) .ensures) ∙ (c .before .op2) .given .1) in
     let h = (c .before .before .before .before .before .pre) .1 in
     node-inside ((c .before .before .before .before .before .pre) .0) _ (omega (arith, b .1))
-
-bin-view-requires : tie.Need-bin-view-requires
-bin-view-requires c κs = search needs
 
 returns : tie.Need-returns
 returns c = rw (tree-of-node ((c .before .before .before .before .pre) .0) ((c .before .before .before .before .args) .i) ((c .before .before .before .before .pre) .1) _ (sym ((c .before .before .node-at) .ensures) ∙ (c .enum-told) .given .1))
@@ -58,10 +55,10 @@ returns-5 c =
 
 returns-6 : tie.Need-returns-6
 returns-6 c =
-    let e = sym ((c .before .before .before .before .before .node-at) .ensures) ∙ (c .before .before .before .op2) .given .1 in
-    let h = (c .before .before .before .before .before .before .before .pre) .1 in
-    let b = below-at ((c .before .before .before .before .before .before .before .pre) .0) ((c .before .before .before .before .before .before .before .args) .i) ((c .before .before .before .before .before .before .before .pre) .1) _ e in
-    rw (tree-of-node ((c .before .before .before .before .before .before .before .pre) .0) ((c .before .before .before .before .before .before .before .args) .i) ((c .before .before .before .before .before .before .before .pre) .1) _ e, constant-at ((c .before .before .before .before .before .before .before .pre) .0) ((c .before .before .before .op2) .given .0 .1 .1 .1 .0) (omega (arith, b .1)), ← ((c .before .node-at2) .ensures)) ((c .bin-view) .ensures)
+    let e = sym ((c .before .before .before .before .node-at) .ensures) ∙ (c .before .before .op2) .given .1 in
+    let h = (c .before .before .before .before .before .before .pre) .1 in
+    let b = below-at ((c .before .before .before .before .before .before .pre) .0) ((c .before .before .before .before .before .before .args) .i) ((c .before .before .before .before .before .before .pre) .1) _ e in
+    rw (tree-of-node ((c .before .before .before .before .before .before .pre) .0) ((c .before .before .before .before .before .before .args) .i) ((c .before .before .before .before .before .before .pre) .1) _ e, constant-at ((c .before .before .before .before .before .before .pre) .0) ((c .before .before .op2) .given .0 .1 .1 .1 .0) (omega (arith, b .1))) ((c .bin-view) .ensures)
 
 pub view-at-spec : {M : Type 1} → statement M
 view-at-spec =
@@ -75,7 +72,6 @@ view-at-spec =
     enum-known-op
     un-view-requires
     enum-known-op-2
-    node-at-requires-2
     bin-view-requires
     returns
     returns-2
