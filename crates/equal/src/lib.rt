@@ -2,27 +2,14 @@
 ghost use mathlib.Core.Path.{_≡_};
 ghost use Prim.Native.Nat.{_+_, _*_, _<_};
 ghost use lib.ListN.{length};
-ghost use Rattle.format.specs.Limits.{nodeWords, headerAt, payloadAt};
+ghost use Rattle.format.specs.Limits.{nodeWords};
 ghost use Rattle.tree.specs.Tree.{same as sameTree};
 ghost use Rattle.arena.specs.Live.{Live, treeOf};
 ghost use Rattle.equal.specs.Alike.{labelOf, alikeAt};
+use arena::header_at;
+use arena::payload_at;
 use format::Node;
-use words::NODE_WORDS;
 use words::fields;
-
-fn header_at(words: &[u64], i: usize) -> u64
-    requires { ⌜ nodeWords * i + 1 < length (now words) ⌝ }
-    ensures { λ r. ⌜ r ≡ headerAt (now (words .entry)) i ⌝ }
-{
-    words[NODE_WORDS * i]
-}
-
-fn payload_at(words: &[u64], i: usize) -> u64
-    requires { ⌜ nodeWords * i + 1 < length (now words) ⌝ }
-    ensures { λ r. ⌜ r ≡ payloadAt (now (words .entry)) i ⌝ }
-{
-    words[NODE_WORDS * i + 1]
-}
 
 // A header without its children: kind, size and space, compared as one word.
 fn label(word: u64) -> u64

@@ -2,14 +2,14 @@
 -- Assumes nothing.
 use mathlib.Core.Path.{_≡_, refl, ap, _∙_, sym}
 use mathlib.Core.Bool.{false}
-use Prim.Native.Nat.{ℕ, _/_, _^_, _<_}
+use Prim.Native.Nat.{ℕ, _/_, _^_, _<_, _≤_}
 use native.Mathlib.Nat.{mod-lt}
 use native.Mathlib.Omega.{arith}
 use lib.Dec.{lit<}
 use lib.Pow.{pow-pos}
 use Rattle.format.specs.Header.{field, kindOf, sizeOf, leftOf, rightOf, spaceOf, header, fields-of-header, header-of-fields}
 use Rattle.format.specs.Kinds.{shapeOf, rowOf, kindCount, unNumber, binNumber}
-use Rattle.format.specs.KindRules.{numberOf, arityOf, usesSpace, usesPayload, row-ruled, shape-by-number, un-number-known, bin-number-known}
+use Rattle.format.specs.KindRules.{numberOf, arityOf, usesSpace, usesPayload, row-ruled, shape-of-unknown, shape-by-number, un-number-known, bin-number-known}
 use Rattle.format.specs.Nodes.{shaped, nodeOf, headerOf, payloadOf, Narrow}
 use Rattle.format.specs.declared.Node.{Node}
 use Rattle.format.specs.declared.Shape.{Shape}
@@ -20,6 +20,11 @@ pub node-of-shape : (shape : Shape) (word payload : ℕ) → kindOf word ≡ num
 unfolding nodeOf
 node-of-shape shape word payload e =
     ap (λ (s : Shape). shaped s word payload) (shape-by-number shape e)
+
+-- a number that is no kind's reads as Top
+pub node-of-unknown : (word payload : ℕ) → kindCount ≤ kindOf word → nodeOf word payload ≡ Node.Top
+unfolding nodeOf
+node-of-unknown word payload h = rw (shape-of-unknown (kindOf word) h)
 
 -- the node of its words is the node
 pub node-of-header : (node : Node) → Narrow node → nodeOf (headerOf node) (payloadOf node) ≡ node

@@ -14,7 +14,7 @@ use Rattle.equal.proofs.same.Kinds as same-kinds
 use Rattle.equal.proofs.+same.Lts-same as same-lts
 use Rattle.arena.proofs.node_at.Reads as node-at-reads
 use Rattle.equal.proofs.alike.Reads as alike-reads
-use Rattle.equal.proofs.header_at.Reads as header-at-reads
+use Rattle.arena.proofs.header_at.Reads as header-at-reads
 use Rattle.words.proofs.fields.left_of.Reads as left-of-reads
 use Rattle.words.proofs.fields.right_of.Reads as right-of-reads
 use Rattle.equal.proofs.+same.{statement}
