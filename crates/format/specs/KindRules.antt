@@ -3,9 +3,9 @@ use mathlib.Core.Path.{_≡_, refl, ap, _∙_, sym}
 use mathlib.Core.Bool.{Bool, true, false, _&&_, Bool·beq}
 use Prim.Native.Nat.{ℕ, _<_, _≤_}
 use lib.Dec.{eqb, lit<}
-use lib.ListN.{length, List·getD-eq-default}
+use lib.ListN.{length, getD, List·getD-eq-default, List·getD-map}
 use borrow.Author.Tests.{eqb-true}
-use Rattle.format.specs.Kinds.{Kind, kinds, kindCount, unknownKind, lineOf, shapeOf, rowOf, unNumber, binNumber}
+use Rattle.format.specs.Kinds.{Kind, kinds, rows, kindCount, unknownKind, lineOf, shapeOf, rowOf, unNumber, binNumber}
 use Rattle.format.specs.Table.{at-line}
 use Rattle.format.specs.Truth.{and-left, and-right}
 use Rattle.format.specs.declared.Bin.{Bin}
@@ -110,6 +110,10 @@ by-test kind line t =
 
 pub kinds-counted : length kinds ≡ kindCount
 kinds-counted = refl
+
+pub row-at : (kind : ℕ) → getD rows kind (unknownKind .row) ≡ rowOf kind
+unfolding rowOf
+row-at kind = List·getD-map (λ (line : Kind). line .row) kinds kind unknownKind
 
 -- every line of the table is ruled
 pub row-ruled : (kind : ℕ) → kind < kindCount → Ruled kind (shapeOf kind) (rowOf kind)

@@ -1,7 +1,7 @@
 // The kinds by number: the one table that drives the check of form and sizes, and the shapes that nodes are read by.
 ghost use mathlib.Core.Path.{_≡_};
 ghost use Prim.Native.Nat.{_<_};
-ghost use Rattle.format.specs.Kinds.{shapeOf, rowOf, unNumber, binNumber, kindCount};
+ghost use Rattle.format.specs.Kinds.{rows, shapeOf, rowOf, unNumber, binNumber, kindCount};
 use crate::KIND_COUNT;
 use format::Bin;
 use format::Row;
@@ -93,6 +93,13 @@ const KINDS: [Row; KIND_COUNT] = [
     TWO_FLAG, // IntSBorrow
     ONE_SAME, // Int2Comp
 ];
+
+// The whole table: one copy of it serves all the nodes of a scan.
+pub fn table() -> [Row; KIND_COUNT]
+    ensures { λ r. ⌜ r ≡ rows ⌝ }
+{
+    KINDS
+}
 
 pub fn row_of(kind: usize) -> Row
     requires { ⌜ kind < kindCount ⌝ }

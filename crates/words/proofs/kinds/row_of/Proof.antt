@@ -1,7 +1,6 @@
 -- The constant table is the definition's. Assumes nothing.
 use borrow.Author.Needs.{needs}
-use lib.ListN.{List·getD-map}
-use Rattle.format.specs.Kinds.{Kind, kinds, unknownKind, rowOf}
+use Rattle.format.specs.KindRules.{row-at}
 use Rattle.words.proofs.kinds.row_of.Statement.{statement}
 use Rattle.words.proofs.kinds.row_of.Tie as tie
 
@@ -12,8 +11,7 @@ array-copy-out-result : tie.Need-array-copy-out-result
 array-copy-out-result c = search needs
 
 returns : tie.Need-returns
-unfolding rowOf
-returns c = List·getD-map (λ (line : Kind). line .row) kinds (c .before .args .kind) unknownKind
+returns c = row-at (c .before .args .kind)
 
 pub row-of-spec : {M : Type 1} → statement M
 row-of-spec = tie.close (tie.spec mul-result array-copy-out-result returns)
