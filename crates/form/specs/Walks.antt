@@ -46,18 +46,20 @@ module _ {words : List ℕ} {count i : ℕ} (at : Within words count i) where
     pub over-at-leaf : childrenOf (nodeAt words i) ≡ Children.None → budget - 1 ≡ leftOver (nodes (tree i)) (path (tree i)) budget most
     over-at-leaf e = rw (nodes-at at Children.None e, path-at at Children.None e) (over-leaf budget most some)
 
-    pub over-at-one : (left : ℕ) → childrenOf (nodeAt words i) ≡ Children.One left →
-        leftOver (nodes (tree left)) (path (tree left)) (budget - 1) (most - 1) ≡ leftOver (nodes (tree i)) (path (tree i)) budget most
-    over-at-one left e =
-        rw (nodes-at at (Children.One left) e, path-at at (Children.One left) e)
+    pub over-at-one : (left over : ℕ) → childrenOf (nodeAt words i) ≡ Children.One left →
+        over ≡ leftOver (nodes (tree left)) (path (tree left)) (budget - 1) (most - 1) →
+        over ≡ leftOver (nodes (tree i)) (path (tree i)) budget most
+    over-at-one left over e s =
+        rw (s, nodes-at at (Children.One left) e, path-at at (Children.One left) e)
         (over-one budget most some (nodes (tree left)) (path (tree left)))
 
-    pub over-at-two : (left right rest : ℕ) → childrenOf (nodeAt words i) ≡ Children.Two left right →
+    pub over-at-two : (left right rest over : ℕ) → childrenOf (nodeAt words i) ≡ Children.Two left right →
         rest ≡ leftOver (nodes (tree left)) (path (tree left)) (budget - 1) (most - 1) →
-        leftOver (nodes (tree right)) (path (tree right)) rest (most - 1) ≡ leftOver (nodes (tree i)) (path (tree i)) budget most
-    over-at-two left right rest e s =
-        rw (nodes-at at (Children.Two left right) e, path-at at (Children.Two left right) e)
-        (over-two budget most some (nodes (tree left)) (path (tree left)) (nodes (tree right)) (path (tree right)) rest s)
+        over ≡ leftOver (nodes (tree right)) (path (tree right)) rest (most - 1) →
+        over ≡ leftOver (nodes (tree i)) (path (tree i)) budget most
+    over-at-two left right rest over e r s =
+        rw (s, nodes-at at (Children.Two left right) e, path-at at (Children.Two left right) e)
+        (over-two budget most some (nodes (tree left)) (path (tree left)) (nodes (tree right)) (path (tree right)) rest r)
 
 -- the limits, by what the two walks leave
 module _ (t : Tree) where

@@ -99,13 +99,13 @@ left-over-returns-4 : (t : ℕ) → left-over-lts.Need-returns-4 (claims t) (lef
 left-over-returns-4 t c =
     let start = c .before .before .before .before .before .before .before .before in
     let read = sym (c .before .before .before .before .children-at .ensures) ∙ c .before .before .left .given .1 in
-    c .left-over .ensures ∙ over-at-one (start .pre .1) _ _ (c .before .before .before .before .before .if2 .left) _ read
+    over-at-one (start .pre .1) _ _ (c .before .before .before .before .before .if2 .left) _ _ read (c .left-over .ensures)
 
 left-over-returns-5 : (t : ℕ) → left-over-lts.Need-returns-5 (claims t) (left-over-at t) left-over.Post
 left-over-returns-5 t c =
     let start = c .before .before .before .before .before .before .before .before .before in
     let read = sym (c .before .before .before .before .before .children-at .ensures) ∙ c .before .before .before .left2 .given .1 in
-    c .left-over3 .ensures ∙ over-at-two (start .pre .1) _ _ (c .before .before .before .before .before .before .if2 .left) _ _ _ read (c .before .left-over2 .ensures)
+    over-at-two (start .pre .1) _ _ (c .before .before .before .before .before .before .if2 .left) _ _ _ _ read (c .before .left-over2 .ensures) (c .left-over3 .ensures)
 
 pub +left-over-spec : {M : Type 1} → statement M
 +left-over-spec = close μ-left-over λ t. left-over-lts.spec (claims t)
