@@ -1,4 +1,4 @@
+pub mod Judged
 pub mod Children
 pub mod Paths
 pub mod Walks
-pub mod Sizes

@@ -1,14 +1,12 @@
 -- A walk over the tree under a node, from the node to its children: the budget that is left and the path that is left. Assumes nothing.
-use mathlib.Core.Bool.{true, false}
 use mathlib.Core.List.{List}
-use mathlib.Core.Path.{_≡_, refl, sym}
-use Prim.Native.Nat.{ℕ, _+_, _-_}
+use mathlib.Core.Path.{_≡_}
+use Prim.Native.Nat.{ℕ, _+_, _-_, _≤_, _<_}
 use native.Mathlib.Omega.{arith}
-use lib.Dec.{leb}
 use borrow.Author.Tests.{le-leb, lt-leb}
 use Rattle.arena.specs.Live.{treeOf}
 use Rattle.form.specs.Children.{childrenOf, Within, nodes-at, path-at}
-use Rattle.form.specs.Paths.{path-one, path-two, path-over}
+use Rattle.form.specs.Paths.{leftOver, no-budget, no-path, over-leaf, over-one, over-two, some-left, none-left}
 use Rattle.form.specs.declared.limits.Children.{Children}
 use Rattle.format.specs.Limits.{maxPath, maxUnfolded}
 use Rattle.theory.specs.Falls.{path-positive}
@@ -20,9 +18,12 @@ use Rattle.tree.specs.declared.Verdict.{Verdict}
 pub nothing-left : (budget : ℕ) → budget ≡ 0 → (t : Tree) → 0 ≡ budget - nodes t
 nothing-left budget none t = omega arith
 
+pub no-budget-left : (budget most : ℕ) → budget ≡ 0 → (t : Tree) → 0 ≡ leftOver (nodes t) (path t) budget most
+no-budget-left budget most none t = no-budget (nodes t) (path t) budget most none
+
 -- every tree has a path
-pub no-path : (most : ℕ) → most ≡ 0 → (t : Tree) → false ≡ leb (path t) most
-no-path most none t = sym (lt-leb (path t) most (omega (arith, path-positive t)))
+pub no-path-left : (budget most : ℕ) → most ≡ 0 → (t : Tree) → 0 ≡ leftOver (nodes t) (path t) budget most
+no-path-left budget most none t = no-path (nodes t) (path t) budget most none (path-positive t)
 
 module _ {words : List ℕ} {count i : ℕ} (at : Within words count i) where
   abbrev tree : ℕ → Tree
@@ -40,35 +41,39 @@ module _ {words : List ℕ} {count i : ℕ} (at : Within words count i) where
         rest - nodes (tree right) ≡ budget - nodes (tree i)
     spend-two left right rest e s = rw (nodes-at at (Children.Two left right) e) (omega arith)
 
-  module _ (most : ℕ) (some : most ≡ 0 → ⊥) where
-    pub path-leaf : childrenOf (nodeAt words i) ≡ Children.None → true ≡ leb (path (tree i)) most
-    path-leaf e = rw (path-at at Children.None e) (sym (le-leb 1 most (omega arith)))
+  -- and each path goes through it
+  module _ (budget most : ℕ) (some : most ≡ 0 → ⊥) where
+    pub over-at-leaf : childrenOf (nodeAt words i) ≡ Children.None → budget - 1 ≡ leftOver (nodes (tree i)) (path (tree i)) budget most
+    over-at-leaf e = rw (nodes-at at Children.None e, path-at at Children.None e) (over-leaf budget most some)
 
-    pub path-through : (left : ℕ) → childrenOf (nodeAt words i) ≡ Children.One left →
-        leb (path (tree left)) (most - 1) ≡ leb (path (tree i)) most
-    path-through left e = rw (path-at at (Children.One left) e) (path-one most some (path (tree left)))
+    pub over-at-one : (left over : ℕ) → childrenOf (nodeAt words i) ≡ Children.One left →
+        over ≡ leftOver (nodes (tree left)) (path (tree left)) (budget - 1) (most - 1) →
+        over ≡ leftOver (nodes (tree i)) (path (tree i)) budget most
+    over-at-one left over e s =
+        rw (s, nodes-at at (Children.One left) e, path-at at (Children.One left) e)
+        (over-one budget most some (nodes (tree left)) (path (tree left)))
 
-    module _ (left right : ℕ) (e : childrenOf (nodeAt words i) ≡ Children.Two left right) where
-      pub path-right : leb (path (tree left)) (most - 1) ≡ true → leb (path (tree right)) (most - 1) ≡ leb (path (tree i)) most
-      path-right s =
-          rw (path-at at (Children.Two left right) e) (path-two most some (path (tree left)) (path (tree right)) s)
+    pub over-at-two : (left right rest over : ℕ) → childrenOf (nodeAt words i) ≡ Children.Two left right →
+        rest ≡ leftOver (nodes (tree left)) (path (tree left)) (budget - 1) (most - 1) →
+        over ≡ leftOver (nodes (tree right)) (path (tree right)) rest (most - 1) →
+        over ≡ leftOver (nodes (tree i)) (path (tree i)) budget most
+    over-at-two left right rest over e r s =
+        rw (s, nodes-at at (Children.Two left right) e, path-at at (Children.Two left right) e)
+        (over-two budget most some (nodes (tree left)) (path (tree left)) (nodes (tree right)) (path (tree right)) rest r)
 
-      pub path-left-over : leb (path (tree left)) (most - 1) ≡ false → false ≡ leb (path (tree i)) most
-      path-left-over s =
-          rw (path-at at (Children.Two left right) e) (path-over most some (path (tree left)) (path (tree right)) s)
-
--- the limits, by the answers of the two walks
+-- the limits, by what the two walks leave
 module _ (t : Tree) where
-  module _ (rest : ℕ) (left : rest ≡ maxUnfolded + 1 - nodes t) where
-    pub too-many : rest ≡ 0 → Verdict.TooManyNodes ≡ limited t
-    too-many none = rw (lt-leb (nodes t) maxUnfolded (omega arith))
+  pub too-many : (spent : ℕ) → spent ≡ maxUnfolded + 1 - nodes t → spent ≡ 0 → Verdict.TooManyNodes ≡ limited t
+  too-many spent is none = rw (lt-leb (nodes t) maxUnfolded (omega arith))
 
-    module _ (some : rest ≡ 0 → ⊥) where
-      few : leb (nodes t) maxUnfolded ≡ true
-      few = le-leb (nodes t) maxUnfolded (omega arith)
+  module _ (rest : ℕ) (over : rest ≡ leftOver (nodes t) (path t) (maxUnfolded + 1) maxPath) where
+    pub passed : 0 < rest → Verdict.Passed ≡ limited t
+    passed some =
+        let kept = some-left (nodes t) (path t) maxUnfolded maxPath (rw over at some) in
+        rw (le-leb (nodes t) maxUnfolded (kept .0), le-leb (path t) maxPath (kept .1))
 
-      pub passed : true ≡ leb (path t) maxPath → Verdict.Passed ≡ limited t
-      passed short = rw (few, sym short)
-
-      pub too-long : false ≡ leb (path t) maxPath → Verdict.PathTooLong ≡ limited t
-      too-long long = rw (few, sym long)
+    pub too-long : rest ≤ 0 → (spent : ℕ) → spent ≡ maxUnfolded + 1 - nodes t → (spent ≡ 0 → ⊥) → Verdict.PathTooLong ≡ limited t
+    too-long none spent is some =
+        let few : nodes t ≤ maxUnfolded = omega arith in
+        let long = none-left (nodes t) (path t) maxUnfolded maxPath (rw over at none) few in
+        rw (le-leb (nodes t) maxUnfolded few, lt-leb (path t) maxPath long)

@@ -1,10 +1,10 @@
 // The limits of the tree under a root. A shared node counts once for every way that it is reached.
 ghost use mathlib.Core.Path.{_≡_};
 ghost use Prim.Native.Nat.{_+_, _-_, _*_, _<_};
-ghost use lib.Dec.{leb};
 ghost use lib.ListN.{length};
 ghost use Rattle.arena.specs.Live.{treeOf};
 ghost use Rattle.form.specs.Children.{childrenOf, Within};
+ghost use Rattle.form.specs.Paths.{leftOver};
 ghost use Rattle.format.specs.Limits.{nodeWords};
 ghost use Rattle.tree.specs.Arena.{nodeAt};
 ghost use Rattle.tree.specs.Form.{limited as limitedOf};
@@ -53,36 +53,38 @@ fn spend(words: &[u64], count: usize, i: usize, budget: u64) -> u64
     }
 }
 
-// Whether no path from i has more than `most` nodes. Each node of the unfolded tree is visited at most once.
-fn path_within(words: &[u64], count: usize, i: usize, most: u64) -> bool
+// What is left of a budget after the nodes of the tree under i, or 0; 0 too where a path from i has more than `most`
+// nodes. Each node of the unfolded tree is visited at most once.
+fn left_over(words: &[u64], count: usize, i: usize, budget: u64, most: u64) -> u64
     requires { ⌜ Within (now words) count i ⌝ }
-    ensures { λ r. ⌜ r ≡ leb (path (treeOf count (now (words .entry)) i)) most ⌝ }
+    ensures { λ r. ⌜ (let t = treeOf count (now (words .entry)) i in r ≡ leftOver (nodes t) (path t) budget most) ⌝ }
 {
+    if budget == 0 {
+        return 0;
+    }
     if most == 0 {
-        return false;
+        return 0;
     }
     match children_at(words, i) {
-        Children::None => true,
-        Children::One(left) => path_within(words, count, left, most - 1),
+        Children::None => budget - 1,
+        Children::One(left) => left_over(words, count, left, budget - 1, most - 1),
         Children::Two(left, right) => {
-            if !path_within(words, count, left, most - 1) {
-                return false;
-            }
-            path_within(words, count, right, most - 1)
+            let rest = left_over(words, count, left, budget - 1, most - 1);
+            left_over(words, count, right, rest, most - 1)
         }
     }
 }
 
-// The nodes first: where they are too many, no path is walked.
+// Both limits in one walk. Where it has nothing left, a second walk tells which limit it was: the nodes come first.
 pub fn limited(words: &[u64], count: usize, root: usize) -> Verdict
     requires { ⌜ Within (now words) count root ⌝ }
     ensures { λ r. ⌜ r ≡ limitedOf (treeOf count (now (words .entry)) root) ⌝ }
 {
-    if spend(words, count, root, MAX_UNFOLDED + 1) == 0 {
-        return Verdict::TooManyNodes;
+    if 0 < left_over(words, count, root, MAX_UNFOLDED + 1, MAX_PATH) {
+        return Verdict::Passed;
     }
-    if path_within(words, count, root, MAX_PATH) {
-        Verdict::Passed
+    if spend(words, count, root, MAX_UNFOLDED + 1) == 0 {
+        Verdict::TooManyNodes
     } else {
         Verdict::PathTooLong
     }

@@ -2,11 +2,13 @@
 ghost use mathlib.Core.Bool.{true};
 ghost use mathlib.Core.Path.{_≡_};
 ghost use Prim.Native.Nat.{_+_, _*_, _^_, _<_};
-ghost use lib.Dec.{ltb};
+ghost use lib.Dec.{leb, ltb};
 ghost use lib.ListN.{length};
+ghost use Rattle.format.specs.Header.{leftOf, rightOf};
 ghost use Rattle.format.specs.Limits.{nodeWords};
-ghost use Rattle.tree.specs.Form.{isSize, sameSize, noWider, oneSize, sized as sizedOf, childSize, wellFormed, wellSized};
+ghost use Rattle.tree.specs.Form.{isSize, sameSize, noWider, oneSize, sized as sizedOf, childSize, rowSized};
 use format::ChildSize;
+use format::Row;
 use format::Sizing;
 use words::NODE_WORDS;
 
@@ -87,16 +89,15 @@ fn child_size(words: &[u64], used: bool, child: usize) -> ChildSize
     ChildSize::Bytes(words::fields::size_of(word))
 }
 
-pub fn well_sized(words: &[u64], i: usize) -> bool
-    requires { ⌜ nodeWords * i + 1 < length (now words) ⌝ }
-    requires { ⌜ wellFormed (now words) i ≡ true ⌝ }
-    ensures { λ r. ⌜ r ≡ wellSized (now (words .entry)) i ⌝ }
+// The rule of a row, at a node whose children lie in the slice.
+pub fn row_sized(words: &[u64], row: Row, word: u64, payload: u64) -> bool
+    requires { ⌜ (leb 1 (row .arity) ≡ true → nodeWords * leftOf word + 1 < length (now words)) ⌝ }
+    requires { ⌜ (leb 2 (row .arity) ≡ true → nodeWords * rightOf word + 1 < length (now words)) ⌝ }
+    ensures { λ r. ⌜ r ≡ rowSized (now (words .entry)) row word payload ⌝ }
 {
-    let word = words[NODE_WORDS * i];
-    let row = words::kinds::row_of(words::fields::kind_of(word));
     let left = child_size(words, 1 <= row.arity, words::fields::left_of(word));
     let right = child_size(words, 2 <= row.arity, words::fields::right_of(word));
     let size = words::fields::size_of(word);
     let sizing = row.sizing;
-    sized(sizing, size, words[NODE_WORDS * i + 1], left, right)
+    sized(sizing, size, payload, left, right)
 }

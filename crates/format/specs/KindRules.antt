@@ -5,9 +5,9 @@ use Prim.Native.Nat.{ℕ, _<_, _≤_}
 use native.Mathlib.Decide.{decLt}
 use native.Mathlib.Omega.{arith}
 use lib.Dec.{eqb, ltb, lit<}
-use lib.ListN.{length, List·getD-eq-default}
+use lib.ListN.{length, getD, List·getD-eq-default, List·getD-map}
 use borrow.Author.Tests.{eqb-true, ne-eqb}
-use Rattle.format.specs.Kinds.{Kind, kinds, kindCount, leafKinds, unknownKind, lineOf, shapeOf, rowOf, unNumber, binNumber}
+use Rattle.format.specs.Kinds.{Kind, kinds, rows, kindCount, leafKinds, unknownKind, lineOf, shapeOf, rowOf, unNumber, binNumber}
 use Rattle.format.specs.Table.{at-line}
 use Rattle.format.specs.Truth.{and-left, and-right}
 use Rattle.format.specs.declared.Bin.{Bin}
@@ -128,6 +128,10 @@ by-test kind line t =
 
 pub kinds-counted : length kinds ≡ kindCount
 kinds-counted = refl
+
+pub row-at : (kind : ℕ) → getD rows kind (unknownKind .row) ≡ rowOf kind
+unfolding rowOf
+row-at kind = List·getD-map (λ (line : Kind). line .row) kinds kind unknownKind
 
 -- every line of the table is ruled
 pub row-ruled : (kind : ℕ) → kind < kindCount → Ruled kind (shapeOf kind) (rowOf kind)

@@ -1,6 +1,6 @@
 -- 01's table of kinds. Assumes nothing.
 use mathlib.Core.Bool.{Bool, true, false}
-use mathlib.Core.List.{List, [], _∷_}
+use mathlib.Core.List.{List, [], _∷_, map}
 use Prim.Native.Nat.{ℕ}
 use lib.ListN.{getD, length}
 use Rattle.format.specs.declared.Bin.{Bin}
@@ -47,6 +47,10 @@ kinds =
     ∷ two Bin.IntSBorrow Sizing.Flag
     ∷ one Un.Int2Comp Sizing.Same
     ∷ []
+
+-- the table without the shapes
+abbrev pub rows : List Row
+rows = map (λ (line : Kind). line .row) kinds
 
 abbrev pub kindCount : ℕ
 kindCount = 17

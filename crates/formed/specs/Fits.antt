@@ -69,14 +69,14 @@ pub unused-zero : (used : Bool) (x : ℕ) → zeroUnlessUsed used x ≡ true →
 unused-zero true x t u = cc
 unused-zero false x t u = eqb-true x 0 t
 
--- the children that a well-formed node has lie in the slice, as it does
-module _ (words : List ℕ) (i : ℕ) (formed : wellFormed words i ≡ true) (inside : nodeWords * i + 1 < length words) where
-  pub left-inside : leb 1 (rowOf (kindOf (headerAt words i)) .arity) ≡ true → nodeWords * leftOf (headerAt words i) + 1 < length words
+-- the children that a node's row gives it lie in the slice, as it does
+module _ (words : List ℕ) (row : Row) (word payload i : ℕ) (fit : rowFits row word payload i ≡ true) (inside : nodeWords * i + 1 < length words) where
+  pub left-inside : leb 1 (row .arity) ≡ true → nodeWords * leftOf word + 1 < length words
   left-inside used =
-      let below = used-below _ (leftOf (headerAt words i)) i (row-fits words i formed .left-fits) used in
+      let below = used-below _ (leftOf word) i (fits row word payload i fit .left-fits) used in
       omega arith
 
-  pub right-inside : leb 2 (rowOf (kindOf (headerAt words i)) .arity) ≡ true → nodeWords * rightOf (headerAt words i) + 1 < length words
+  pub right-inside : leb 2 (row .arity) ≡ true → nodeWords * rightOf word + 1 < length words
   right-inside used =
-      let below = used-below _ (rightOf (headerAt words i)) i (row-fits words i formed .right-fits) used in
+      let below = used-below _ (rightOf word) i (fits row word payload i fit .right-fits) used in
       omega arith

@@ -1,7 +1,7 @@
 // The kinds by number: the one table that drives the check of form and sizes, and the shapes that nodes are read by.
 ghost use mathlib.Core.Path.{_≡_};
 ghost use Prim.Native.Nat.{_<_, _≤_};
-ghost use Rattle.format.specs.Kinds.{shapeOf, rowOf, unNumber, binNumber, kindCount};
+ghost use Rattle.format.specs.Kinds.{rows, shapeOf, unNumber, binNumber};
 use crate::KIND_COUNT;
 use format::Bin;
 use format::Row;
@@ -94,11 +94,11 @@ const KINDS: [Row; KIND_COUNT] = [
     ONE_SAME, // Int2Comp
 ];
 
-pub fn row_of(kind: usize) -> Row
-    requires { ⌜ kind < kindCount ⌝ }
-    ensures { λ r. ⌜ r ≡ rowOf kind ⌝ }
+// The whole table: one copy of it serves all the nodes of a scan.
+pub fn table() -> [Row; KIND_COUNT]
+    ensures { λ r. ⌜ r ≡ rows ⌝ }
 {
-    KINDS[kind]
+    KINDS
 }
 
 // The operator of a kind of two children, whose number is one from 4 to 15 other than 12.
