@@ -1,8 +1,8 @@
 -- What the `else` of an `if let` tells: the value is another variant. Assumes nothing.
 use denote.Enum.Declared.{tagOf}
-use mathlib.Core.List.{List, [], _∷_}
+use mathlib.Core.List.{[], _∷_}
 use mathlib.Core.Logic.{inl, inr}
-use mathlib.Core.Option.{Option, some, none}
+use mathlib.Core.Option.{none}
 use mathlib.Core.Path.{_≡_, refl}
 use native.Mathlib.Omega.{arith}
 use types.Run.{OneOf}

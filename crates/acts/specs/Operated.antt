@@ -3,7 +3,7 @@
 use mathlib.Core.Bool.{false, true}
 use mathlib.Core.List.{List}
 use mathlib.Core.Path.{_≡_}
-use Prim.Native.Nat.{ℕ, _≤_, _<_}
+use Prim.Native.Nat.{ℕ, _<_}
 use Rattle.arena.specs.Live.{treeOf}
 use Rattle.arith.specs.Operands.{Extension}
 use Rattle.format.specs.declared.Bin.{Bin}

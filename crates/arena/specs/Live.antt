@@ -2,9 +2,9 @@
 use mathlib.Core.Bool.{Bool, true, false}
 use mathlib.Core.List.{List}
 use mathlib.Core.Path.{_≡_}
-use Prim.Native.Nat.{ℕ, _*_, _≤_, _<_}
+use Prim.Native.Nat.{ℕ, _≤_, _<_}
 use lib.ListN.{length}
-use Rattle.format.specs.Limits.{nodeWords, capacity, headerAt, payloadAt}
+use Rattle.format.specs.Limits.{capacity, headerAt, payloadAt}
 use Rattle.format.specs.Nodes.{headerOf, payloadOf, Narrow}
 use Rattle.format.specs.declared.Node.{Node}
 use Rattle.tree.specs.Arena.{nodeAt, nodesOf, build, treeAt, Below}

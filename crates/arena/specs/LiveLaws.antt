@@ -2,7 +2,7 @@
 -- children's trees. Assumes nothing.
 use mathlib.Core.List.{List}
 use mathlib.Core.Path.{_≡_, refl, ap, sym, _∙_}
-use Prim.Native.Nat.{ℕ, _+_, _*_, _/_, _≤_, _<_, min}
+use Prim.Native.Nat.{ℕ, _+_, _*_, _/_, _≤_, _<_}
 use native.Mathlib.Decide.{decLt}
 use native.Mathlib.Nat.{min-le-left, min-le-right}
 use native.Mathlib.Omega.{arith}
@@ -18,7 +18,7 @@ use Rattle.format.specs.NodesOfWords.{node-of-unknown}
 use Rattle.format.specs.declared.Node.{Node}
 use Rattle.format.specs.declared.Shape.{Shape}
 use Rattle.rules.specs.Run.{leftChild}
-use Rattle.tree.specs.Arena.{nodeAt, nodesOf, at, build, treeAt, Below, Ordered}
+use Rattle.tree.specs.Arena.{nodeAt, nodesOf, at, build, Below, Ordered}
 use Rattle.tree.specs.ArenaLaws.{length-nodesOf, at-nodesOf, tree-eq}
 use Rattle.tree.specs.Tree.{Tree, size, isTop}
 

@@ -7,7 +7,7 @@ use native.Mathlib.Omega.{arith}
 use lib.ListN.{length, getD, set, length-set}
 use lib.Seq.{getD-set-same, getD-set-other}
 use Rattle.arena.specs.Ended.{Ended, Did}
-use Rattle.arena.specs.Live.{Live, Good, New, treeOf}
+use Rattle.arena.specs.Live.{Live, Good, New}
 use Rattle.arena.specs.LiveLaws.{capacity-room, live-ordered}
 use Rattle.arena.specs.declared.Step.{Step}
 use Rattle.format.specs.Limits.{nodeWords, capacity, headerAt, payloadAt}
@@ -15,7 +15,7 @@ use Rattle.format.specs.Nodes.{nodeOf, headerOf, payloadOf}
 use Rattle.format.specs.NodesOfWords.{node-of-header}
 use Rattle.format.specs.declared.Node.{Node}
 use Rattle.rules.specs.Run.{append}
-use Rattle.tree.specs.Arena.{nodeAt, nodesOf, build, treeAt, Below}
+use Rattle.tree.specs.Arena.{nodeAt, nodesOf, treeAt, Below}
 use Rattle.tree.specs.ArenaLaws.{length-nodesOf, nodesOf-cong, length-appended, appended-extends, tree-stays, tree-appended}
 use Rattle.tree.specs.Form.{Sized}
 

@@ -54,9 +54,3 @@ module _ (words : List ℕ) (count root : ℕ) (rows : List ℕ) where
   unfolding evaluatedLive answerAt
   evaluated-answer good free =
       rw (good, free) (valued-of (missing rows (nodesOf count words) root) (value (assigned rows) (treeOf count words root)))
-
-  -- an assignment gives a value to a tree from which no Top is reached
-  pub evaluated-value : badRow rows ≡ none → hasTop (treeOf count words root) ≡ false → missing rows (nodesOf count words) root ≡ none →
-      evaluatedLive words count root rows ≡ Evaluated.Value (value (assigned rows) (treeOf count words root))
-  unfolding evaluatedLive
-  evaluated-value good free all = rw (good, free, all)

@@ -1,6 +1,6 @@
 -- Numbers in bytes, most significant byte first. Assumes nothing.
 use mathlib.Core.List.{List}
-use mathlib.Core.Path.{_≡_, refl}
+use mathlib.Core.Path.{_≡_}
 use Prim.Native.Nat.{ℕ, zero, suc, _+_, _*_, _^_}
 use native.Mathlib.Omega.{arith}
 use lib.ListN.{getD}

@@ -139,10 +139,6 @@ unfolding shapeOf rowOf
 row-ruled kind h = by-test kind (lineOf kind) (at-line ruled unknownKind kinds refl kind h)
 
 -- past the table
-pub row-of-unknown : (kind : ℕ) → kindCount ≤ kind → rowOf kind ≡ unknownKind .row
-unfolding rowOf
-row-of-unknown kind h = ap (λ (line : Kind). line .row) (List·getD-eq-default kinds unknownKind h)
-
 pub shape-of-unknown : (kind : ℕ) → kindCount ≤ kind → shapeOf kind ≡ Shape.Top
 unfolding shapeOf
 shape-of-unknown kind h = ap (λ (line : Kind). line .shape) (List·getD-eq-default kinds unknownKind h)

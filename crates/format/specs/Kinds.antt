@@ -2,7 +2,7 @@
 use mathlib.Core.Bool.{Bool, true, false}
 use mathlib.Core.List.{List, [], _∷_, map}
 use Prim.Native.Nat.{ℕ}
-use lib.ListN.{getD, length}
+use lib.ListN.{getD}
 use Rattle.format.specs.declared.Bin.{Bin}
 use Rattle.format.specs.declared.Row.{Row}
 use Rattle.format.specs.declared.Shape.{Shape}

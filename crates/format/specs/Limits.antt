@@ -1,7 +1,7 @@
 -- The numbers that an arena and a tree are limited by. Assumes nothing: these are definitions.
 use mathlib.Core.List.{List}
 use Prim.Native.Nat.{ℕ, _+_, _*_, _/_, min}
-use lib.ListN.{length, getD}
+use lib.ListN.{getD}
 
 -- how many words a node takes
 abbrev pub nodeWords : ℕ

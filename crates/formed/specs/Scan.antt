@@ -84,14 +84,6 @@ module _ (words : List ℕ) where
     pub scan-passed : scanned words count 0 ≡ Verdict.Passed → (i : ℕ) → i < count → WellMade words i
     scan-passed e i h = subst (Says words count 0) e (scan-says count 0) i zero-le (omega arith)
 
-    -- a node that is named is the first that is not well made, and its line holds
-    pub scan-ill-formed : (i : ℕ) → scanned words count 0 ≡ Verdict.IllFormed i → First words count 0 i × (wellFormed words i ≡ false)
-    scan-ill-formed i e = subst (Says words count 0) e (scan-says count 0)
-
-    pub scan-ill-sized : (i : ℕ) → scanned words count 0 ≡ Verdict.IllSized i →
-        First words count 0 i × (wellFormed words i ≡ true) × (wellSized words i ≡ false)
-    scan-ill-sized i e = subst (Says words count 0) e (scan-says count 0)
-
   -- the scan of the nodes from i to the count, a node at a time
   pub scan-ends : (count i : ℕ) → count ≤ i → scanned words (count - i) i ≡ Verdict.Passed
   unfolding scanned

@@ -2,9 +2,9 @@
 use mathlib.Core.Path.{_≡_, _∙_}
 use mathlib.Core.Logic.{⊎-elim}
 use Prim.Native.Nat.{ℕ, _+_, _-_, _*_, _%_, _^_, _≤_, _<_}
-use native.Mathlib.Nat.{mod-lt, mod-eq-of-lt}
+use native.Mathlib.Nat.{mod-eq-of-lt}
 use native.Mathlib.Omega.{arith}
-use lib.Pow.{pow-mono, pow-pos}
+use lib.Pow.{pow-mono}
 use Rattle.manual.specs.Operations.{intAdd, intSub, intMult, int2Comp, intSExt}
 use Rattle.manual.specs.Modulo.{Congruent, same-remainder, remainder, difference, divides, narrowed}
 use Rattle.manual.specs.Halves.{below-or, intSExt-lower, intSExt-upper}
@@ -30,18 +30,6 @@ module _ (w : ℕ) (small : w ≤ 64) where
 
   pub int2Comp-cut : (a : ℕ) → a < 2 ^ w → int2Comp 64 a % 2 ^ w ≡ int2Comp w a
   int2Comp-cut a h = intSub-cut 0 a h
-
-  -- of any number of 64 bits, as a difference of constants is one
-  pub int2Comp-cut-wide : (d : ℕ) → d < 2 ^ 64 → int2Comp 64 d % 2 ^ w ≡ int2Comp w (d % 2 ^ w)
-  int2Comp-cut-wide d h =
-      let c = wide-difference 0 d h in
-      let r = remainder (2 ^ w) d in
-      same-remainder (2 ^ w)
-      (record {
-        left = c .left + r .left + 1;
-        right = c .right + r .right;
-        equal = omega (arith, c .equal, r .equal, mod-lt d (pow-pos w));
-      })
 
   -- the low bits of -b
   pub negative-cut : (b : ℕ) → 0 < b → b ≤ 2 ^ w → (2 ^ 64 - b) % 2 ^ w ≡ 2 ^ w - b

@@ -59,9 +59,6 @@ module _ (rows : List ℕ) where
   pub bad-row-is-first : (i : ℕ) → badRow rows ≡ some i → FirstBad rows (length rows / rowWords) 0 i
   bad-row-is-first i e = subst (Tells rows (length rows / rowWords) 0) e (bad-tells (length rows / rowWords) 0)
 
-  pub no-bad-row-is-none : badRow rows ≡ none → NoneBad rows (length rows / rowWords) 0
-  no-bad-row-is-none e = subst (Tells rows (length rows / rowWords) 0) e (bad-tells (length rows / rowWords) 0)
-
 -- MISSING INPUTS
 
 -- a node that is an input without a row

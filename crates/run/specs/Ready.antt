@@ -1,22 +1,21 @@
 -- What is known of a node once its children are simplified, and what its visit then is. Assumes nothing.
 use mathlib.Core.Bool.{Bool, true, false, _||_}
 use mathlib.Core.List.{List}
-use mathlib.Core.Path.{_≡_, refl, ap, ap₂, sym, _∙_}
-use Prim.Native.Nat.{ℕ, _*_, _+_, _≤_, _<_}
+use mathlib.Core.Path.{_≡_, refl, ap, sym, _∙_}
+use Prim.Native.Nat.{ℕ, _<_}
 use native.Mathlib.Omega.{arith}
 use lib.ListN.{length}
-use Rattle.acts.specs.Operated.{UnaryOver, BinaryOver}
 use Rattle.arena.specs.Ended.{Ended}
 use Rattle.arena.specs.Live.{Live, New, treeOf, nodeIsTop, nodeIsLeaf}
 use Rattle.arena.specs.LiveLaws.{live-ordered, in-arena, top-at, tree-of-node}
 use Rattle.arena.specs.declared.Step.{Step}
-use Rattle.format.specs.Truth.{or-left, or-right, or-neither, not-both}
+use Rattle.format.specs.Truth.{or-neither, not-both}
 use Rattle.format.specs.declared.Bin.{Bin}
 use Rattle.format.specs.declared.ChildSize.{ChildSize}
 use Rattle.format.specs.declared.Node.{Node}
 use Rattle.format.specs.declared.Un.{Un}
 use Rattle.rules.specs.Run.{Out, out, unaryRun, binaryRun, weight, simplified}
-use Rattle.settle.specs.Chains.{after-run, ended-here, unary-child, unary-ended, unary-lighter, binary-children, binary-ended, binary-lighter, right-lighter}
+use Rattle.settle.specs.Chains.{after-run, ended-here, unary-child, binary-children}
 use Rattle.settle.specs.Visits.{OneAt, TwoAt}
 use Rattle.theory.specs.Normal.{Normal, normal-top}
 use Rattle.theory.specs.Reduced.{reduced-normal, reduced-top}
@@ -24,7 +23,7 @@ use Rattle.theory.specs.Simulation.{run-on-normal, simplified-stands}
 use Rattle.theory.specs.TreeRun.{reduced}
 use Rattle.theory.specs.Values.{over-reduced-one, over-reduced-two}
 use Rattle.theory.specs.Visits.{OverNormal, leaf-top, leaf-entry, leaf-const, leaf-bind}
-use Rattle.tree.specs.Arena.{nodeAt, nodesOf, treeAt}
+use Rattle.tree.specs.Arena.{nodeAt, nodesOf}
 use Rattle.tree.specs.ArenaLaws.{length-nodesOf, at-nodesOf, tree-stays}
 use Rattle.tree.specs.Form.{Sized, sized, unSizing, binSizing, sizeSeen}
 use Rattle.tree.specs.Tree.{Tree, unary, binary, isTop, hasTop}

@@ -2,7 +2,7 @@
 use mathlib.Core.Bool.{Bool, true, false, _&&_, _||_}
 use mathlib.Core.List.{List, [], _∷_, _++_}
 use mathlib.Core.Path.{_≡_, refl, ap, ap₂, sym, _∙_}
-use Prim.Native.Nat.{ℕ, suc, _+_, _*_, _≤_, _<_}
+use Prim.Native.Nat.{ℕ, _+_, _*_, _≤_, _<_}
 use native.Mathlib.Nat.{le-refl}
 use native.Mathlib.Omega.{arith}
 use lib.Dec.{eqb}
@@ -11,7 +11,7 @@ use Rattle.arena.specs.Ended.{Did, Ran, Ended}
 use Rattle.arena.specs.Live.{Live, treeOf}
 use Rattle.arena.specs.LiveLaws.{live-ordered}
 use Rattle.arena.specs.declared.Step.{Step}
-use Rattle.format.specs.Limits.{nodeWords, capacity}
+use Rattle.format.specs.Limits.{nodeWords}
 use Rattle.format.specs.Nodes.{nodeOf}
 use Rattle.format.specs.declared.Bin.{Bin}
 use Rattle.format.specs.declared.Node.{Node}
@@ -23,7 +23,7 @@ use Rattle.theory.specs.Normal.{Normal}
 use Rattle.theory.specs.Simulation.{Stands, simplified-stands}
 use Rattle.theory.specs.TreeRun.{actedTree}
 use Rattle.theory.specs.Visits.{redoes, carried, redone, not-redone, one-below, one-eq, one-grows, one-falls, one-lighter, two-below, two-eq, left-grows, right-grows, left-falls, right-falls, two-lighter, OverNormal, carriedTwo, carried-two-stands, carried-two-lighter, carried-two-over-normal, carriedOne, carried-one-stands, carried-one-lighter, carried-one-over-normal}
-use Rattle.tree.specs.Arena.{nodeAt, nodesOf, at, treeAt, Ordered}
+use Rattle.tree.specs.Arena.{nodeAt, nodesOf, at}
 use Rattle.tree.specs.ArenaLaws.{length-nodesOf, at-nodesOf, length-appended}
 use Rattle.tree.specs.Tree.{Tree, unary, binary, isTop}
 

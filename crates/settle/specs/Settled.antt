@@ -1,34 +1,30 @@
 -- What the writer may append: the nodes that an action makes are new to the arena. Assumes nothing.
-use mathlib.Core.Bool.{Bool, true, false}
+use mathlib.Core.Bool.{Bool, true}
 use mathlib.Core.List.{List, [], _∷_, _++_}
-use mathlib.Core.Path.{_≡_, refl, ap, sym, _∙_, subst}
-use Prim.Native.Nat.{ℕ, suc, _+_, _*_, _%_, _^_, _≤_, _<_}
+use mathlib.Core.Path.{_≡_}
+use Prim.Native.Nat.{ℕ, _+_, _^_, _≤_, _<_}
 use native.Mathlib.Omega.{arith}
 use lib.ListN.{length}
 use Rattle.acts.specs.Operated.{UnaryOver, BinaryOver}
 use Rattle.arena.specs.Live.{Live, New, treeOf}
 use Rattle.arena.specs.LiveLaws.{capacity-few, live-ordered}
-use Rattle.arith.specs.Operands.{Size}
-use Rattle.format.specs.Limits.{capacity, maxNodes}
-use Rattle.format.specs.Nodes.{Narrow}
+use Rattle.format.specs.Limits.{maxNodes}
 use Rattle.format.specs.declared.Bin.{Bin}
-use Rattle.format.specs.declared.ChildSize.{ChildSize}
 use Rattle.format.specs.declared.Node.{Node}
 use Rattle.format.specs.declared.Un.{Un}
 use Rattle.rules.specs.Rules.{binAct, unAct}
 use Rattle.rules.specs.Run.{Out, append, keptAs, makeConst, near}
 use Rattle.rules.specs.declared.Act.{Act}
-use Rattle.rules.specs.declared.Near.{Near}
 use Rattle.settle.specs.declared.settle.Op.{Op}
 use Rattle.theory.specs.Simulation.{near-stands}
 use Rattle.theory.specs.Sizes.{size-bounds, bin-isSize, un-isSize}
-use Rattle.theory.specs.TreeRun.{nearTree, constTree}
+use Rattle.theory.specs.TreeRun.{constTree}
 use Rattle.theory.specs.Values.{ActSized, bin-act-sized, un-act-sized}
 use Rattle.theory.specs.Visits.{carried}
 use Rattle.tree.specs.Arena.{build, nodesOf, treeAt, Ordered}
 use Rattle.tree.specs.ArenaLaws.{length-nodesOf, length-appended, appended-extends, tree-stays, tree-appended}
-use Rattle.tree.specs.Form.{isSize, Sized, sized, unSizing, binSizing, sizeSeen}
-use Rattle.tree.specs.Tree.{Tree, unary, binary}
+use Rattle.tree.specs.Form.{isSize, Sized, sized}
+use Rattle.tree.specs.Tree.{unary, binary}
 
 -- an operator's node over a, or over a and b
 abbrev pub overOf : Op → (s a b : ℕ) → Node

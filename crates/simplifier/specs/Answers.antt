@@ -1,13 +1,12 @@
 -- The answers by the check's verdict. Assumes nothing.
 use mathlib.Core.List.{List}
-use mathlib.Core.Path.{_≡_, refl, ap, _∙_}
+use mathlib.Core.Path.{_≡_, ap}
 use Prim.Native.Nat.{ℕ}
 use Rattle.rules.specs.Call.{ranOn, fits, ended, afterCheck, wordsLeft, simplifiedAnswer, wordsAfter}
 use Rattle.rules.specs.Run.{Out}
 use Rattle.rules.specs.declared.Simplified.{Simplified}
 use Rattle.tree.specs.Form.{checked}
-use Rattle.tree.specs.Rows.{passed, evaluated}
-use Rattle.tree.specs.declared.Evaluated.{Evaluated}
+use Rattle.tree.specs.Rows.{passed}
 use Rattle.tree.specs.declared.Verdict.{Verdict}
 
 module _ (words : List ℕ) (count root : ℕ) where

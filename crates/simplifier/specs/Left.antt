@@ -1,13 +1,13 @@
 -- The words that the call leaves, from what the run leaves. Assumes nothing.
-use mathlib.Core.Bool.{Bool, true, false}
+use mathlib.Core.Bool.{true}
 use mathlib.Core.List.{List, [], _∷_, _++_, append-assoc}
 use mathlib.Core.Path.{_≡_, refl, ap, ap₂, sym, _∙_}
 use Prim.Native.Nat.{ℕ, zero, suc, _+_, _-_, _*_, _≤_, _<_}
 use native.Mathlib.Omega.{arith}
 use borrow.Author.Tests.{le-leb, lt-leb}
 use lib.ListN.{length, getD, take, drop, replicate, length-take, length-drop, take-append-drop}
-use lib.Seq.{take-take, take-suc, getD-take, getD-drop, ext-getD, length-take-le, drop-nil}
-use Rattle.arena.specs.Ended.{Ended, Did}
+use lib.Seq.{take-take, take-suc, getD-take, getD-drop, ext-getD, drop-nil}
+use Rattle.arena.specs.Ended.{Ended}
 use Rattle.arena.specs.Live.{Live}
 use Rattle.arena.specs.LiveLaws.{capacity-room}
 use Rattle.arena.specs.declared.Step.{Step}

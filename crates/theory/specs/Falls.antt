@@ -1,9 +1,8 @@
 -- What an action makes is no larger than the node that it is for: it weighs less where it is simplified again, and its paths are no
 -- longer. So the run ends, and no tree grows. Assumes nothing.
-use mathlib.Core.Bool.{Bool, true, false, cond}
+use mathlib.Core.Bool.{Bool, cond}
 use mathlib.Core.Option.{Option, some, none}
-use mathlib.Core.Path.{_≡_, refl}
-use Prim.Native.Nat.{ℕ, suc, _+_, _*_, _^_, _-_, _≤_, _<_, max}
+use Prim.Native.Nat.{ℕ, suc, _+_, _*_, _^_, _-_, _≤_, _<_}
 use native.Mathlib.Nat.{le-max-left, le-max-right}
 use native.Mathlib.Omega.{arith}
 use lib.Dec.{eqb, leb}
@@ -16,7 +15,6 @@ use Rattle.rules.specs.declared.Act.{Act}
 use Rattle.rules.specs.declared.Beside.{Beside}
 use Rattle.rules.specs.declared.Constants.{Constants}
 use Rattle.rules.specs.declared.Equals.{Equals}
-use Rattle.rules.specs.declared.Near.{Near}
 use Rattle.rules.specs.declared.View.{View}
 use Rattle.format.specs.Truth.{either}
 use Rattle.theory.specs.TreeRun.{leftOf, nearTree}

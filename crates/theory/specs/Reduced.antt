@@ -3,7 +3,7 @@
 use mathlib.Core.Bool.{Bool, true, false, _||_}
 use mathlib.Core.Path.{_≡_, refl, ap, sym, _∙_}
 use Prim.Native.Nat.{ℕ, zero, suc, _+_, _*_, _≤_, _<_, max}
-use native.Mathlib.Nat.{le-max-left, le-max-right, max-le, max-comm, le-trans}
+use native.Mathlib.Nat.{le-max-left, le-max-right, max-le, max-comm}
 use native.Mathlib.Omega.{arith}
 use Rattle.format.specs.declared.Bin.{Bin}
 use Rattle.format.specs.declared.Un.{Un}
@@ -13,9 +13,9 @@ use Rattle.rules.specs.declared.Act.{Act}
 use Rattle.rules.specs.declared.Near.{Near}
 use Rattle.format.specs.Truth.{or-left, or-right, or-swapped, or-cong}
 use Rattle.theory.specs.Falls.{nodes-positive, path-positive, sub-le, Within, Falls, falls-weaker, unary-falls, binary-falls}
-use Rattle.theory.specs.Normal.{Normal, normal-stays, normal-top, normal-inputless, IsConst, swap-keeps, unary-no-swap}
+use Rattle.theory.specs.Normal.{Normal, normal-top, swap-keeps, unary-no-swap}
 use Rattle.theory.specs.TreeRun.{leftOf, nearTree, constTree, actedTree, unaryTree, binaryTree, overOne, overTwo, visitTree, reducedFor, reduced}
-use Rattle.tree.specs.Tree.{Tree, top, entry, const, bind, unary, binary, nodes, path, isTop, hasTop, hasInput}
+use Rattle.tree.specs.Tree.{Tree, top, entry, const, bind, unary, binary, nodes, path, isTop, hasTop}
 
 -- a tree that the run made of one that weighed W, had paths of P nodes, and a Top reachable or not
 pub record Outcome (W P : ℕ) (topped : Bool) (u : Tree) : Type 0 where
@@ -214,6 +214,3 @@ reduced-nodes t = no-more-nodes t (reduced t) (outcome (weight t) t (omega arith
 
 pub reduced-path : (t : Tree) → path (reduced t) ≤ path t
 reduced-path t = outcome (weight t) t (omega arith) .within .short
-
-pub reduced-twice : (t : Tree) → reduced (reduced t) ≡ reduced t
-reduced-twice t = normal-stays (weight (reduced t)) (reduced t) (reduced-normal t)

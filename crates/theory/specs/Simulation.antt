@@ -3,7 +3,7 @@
 use mathlib.Core.Bool.{Bool, true, false, _&&_, _||_}
 use mathlib.Core.List.{List, [], _∷_, _++_}
 use mathlib.Core.Path.{_≡_, refl, ap, ap₂, sym, _∙_, subst}
-use Prim.Native.Nat.{ℕ, zero, suc, _+_, _*_, _%_, _^_, _≤_, _<_}
+use Prim.Native.Nat.{ℕ, zero, suc, _+_, _≤_, _<_}
 use native.Mathlib.Omega.{arith}
 use lib.Dec.{eqb}
 use lib.ListN.{length}
@@ -17,11 +17,11 @@ use Rattle.rules.specs.declared.Near.{Near}
 use Rattle.format.specs.Truth.{and-left, and-right, eqb-same, eqb-equal}
 use Rattle.theory.specs.Falls.{nodes-positive, sub-le, Falls, falls-weaker, unary-falls, binary-falls}
 use Rattle.theory.specs.Normal.{Normal}
-use Rattle.theory.specs.Reduced.{WellBelow, outcome, no-more-nodes, reduced-normal}
+use Rattle.theory.specs.Reduced.{WellBelow, outcome, no-more-nodes}
 use Rattle.theory.specs.TreeRun.{leftOf, nearTree, constTree, actedTree, unaryTree, binaryTree, overOne, overTwo, visitTree, reducedFor, reduced}
 use Rattle.tree.specs.Arena.{at, build, treeAt, Below, Ordered}
-use Rattle.tree.specs.ArenaLaws.{Extends, extends-refl, extends-trans, build-cong, tree-stays, tree-eq, length-appended, appended-extends, appended-ordered, tree-appended}
-use Rattle.tree.specs.Tree.{Tree, top, unary, binary, path, nodes, isTop}
+use Rattle.tree.specs.ArenaLaws.{Extends, extends-refl, extends-trans, tree-stays, tree-eq, length-appended, appended-extends, appended-ordered, tree-appended}
+use Rattle.tree.specs.Tree.{Tree, unary, binary, path, nodes, isTop}
 
 -- ON A NORMAL TREE nothing is appended and the index is the same, for any number of steps
 
@@ -183,13 +183,6 @@ runs-stand (suc n) arena w i b =
 -- the run ends at the reduced tree
 pub simplified-stands : Simulates simplified reduced
 simplified-stands arena w i b = runs-stand (weight (treeAt arena i)) arena w i b
-
--- simplifying again returns the same index and appends nothing
-pub simplified-twice : (arena : List Node) → Ordered arena → (i : ℕ) → i < length arena → (n : ℕ) →
-    runFor n ((simplified arena i) .arena) ((simplified arena i) .index) ≡ simplified arena i
-simplified-twice arena w i b n =
-    let x = simplified-stands arena w i b in
-    run-on-normal ((simplified arena i) .arena) (x .ordered) n ((simplified arena i) .index) (x .bound) (rw (x .is) (reduced-normal (treeAt arena i)))
 
 -- ENOUGH STEPS ARE ENOUGH
 

@@ -1,8 +1,8 @@
 -- The run keeps the size and the value of a tree from which no Top is reached, whatever the inputs are; so it keeps sizes in any
 -- tree. Assumes nothing.
 -- Throughout, `ok` says that a tree is well sized, and `free` that no Top is reached from it.
-use mathlib.Core.Bool.{Bool, true, false, true≢false}
-use mathlib.Core.Path.{_≡_, refl, sym, _∙_}
+use mathlib.Core.Bool.{true, false, true≢false}
+use mathlib.Core.Path.{_≡_, refl, _∙_}
 use Prim.Native.Nat.{ℕ, zero, suc, _*_}
 use lib.Pow.{pow-pos}
 use Rattle.format.specs.Header.{sizeOf}
@@ -14,13 +14,12 @@ use Rattle.rules.specs.Run.{weight}
 use Rattle.rules.specs.declared.Act.{Act}
 use Rattle.theory.specs.BinValues.{bin-act-keeps}
 use Rattle.theory.specs.Keeps.{Keeps, Replaces, replaces-itself}
-use Rattle.theory.specs.Reduced.{reduced-top}
 use Rattle.theory.specs.Sizes.{size-seen, free-isTop, free-left, free-right}
 use Rattle.theory.specs.TreeRun.{nearTree, constTree, actedTree, overOne, overTwo, visitTree, reducedFor, reduced}
 use Rattle.theory.specs.UnValues.{un-act-keeps}
 use Rattle.tree.specs.Form.{sized, unSizing, binSizing, sizeSeen, Sized}
 use Rattle.tree.specs.Meaning.{Assignment, Fitting, value}
-use Rattle.tree.specs.Tree.{Tree, top, entry, const, bind, unary, binary, size, isTop, hasTop}
+use Rattle.tree.specs.Tree.{Tree, top, entry, const, bind, unary, binary, size, hasTop}
 
 chained : {ρ : Assignment} {s v : ℕ} {t u : Tree} → Keeps ρ s v t → Replaces ρ t u → Keeps ρ s v u
 chained p q = record { sized = q .sized; size-is = q .size-is ∙ p .size-is; topless = q .topless; value-is = q .value-is ∙ p .value-is }
@@ -106,9 +105,6 @@ zeros word payload = 0
 zeros-fit : Fitting zeros
 zeros-fit word payload = pow-pos (8 * sizeOf word)
 
-pub reduced-sized : (t : Tree) → Sized t → hasTop t ≡ false → Sized (reduced t)
-reduced-sized t ok free = keeps zeros zeros-fit (weight t) t ok free .sized
-
 pub reduced-size : (t : Tree) → Sized t → hasTop t ≡ false → size (reduced t) ≡ size t
 reduced-size t ok free = keeps zeros zeros-fit (weight t) t ok free .size-is
 
@@ -125,22 +121,6 @@ pub over-reduced-two : (op : Bin) (s : ℕ) (a b : Tree) → Sized (binary op s 
 over-reduced-two op s a b ok free =
     binary-replaced zeros op s a b (reduced a) (reduced b) ok free
     (keeps zeros zeros-fit (weight a) a (ok .1) (free-left a b free)) (keeps zeros zeros-fit (weight b) b (ok .2) (free-right a b free)) .sized
-
--- where a Top is reached, too: Top is well sized
-top-sized : (t : Tree) → isTop t ≡ true → Sized t
-top-sized top e = tt
-top-sized (entry s space offset) e = absurd (true≢false (sym e))
-top-sized (const s v) e = absurd (true≢false (sym e))
-top-sized (bind s id) e = absurd (true≢false (sym e))
-top-sized (unary op s a) e = absurd (true≢false (sym e))
-top-sized (binary op s a b) e = absurd (true≢false (sym e))
-
-pub reduced-sized-any : (t : Tree) → Sized t → Sized (reduced t) × (isTop (reduced t) ≡ false → size (reduced t) ≡ size t)
-reduced-sized-any t ok = (by-top (hasTop t) refl, λ e. reduced-size t ok (sym (reduced-top t) ∙ e))
-  where
-    by-top : (has : Bool) → hasTop t ≡ has → Sized (reduced t)
-    by-top true has = top-sized (reduced t) (reduced-top t ∙ has)
-    by-top false free = reduced-sized t ok free
 
 -- WHAT A RULE MAKES is well sized, whatever it decides: every tree that is appended
 

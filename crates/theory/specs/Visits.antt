@@ -1,9 +1,9 @@
 -- One visit of the run over an arena, put together from the runs of its children: what it equals, what it appends, and what falls. The
 -- code is proved against these. Assumes nothing.
 use mathlib.Core.Bool.{Bool, true, false, _&&_, _||_}
-use mathlib.Core.List.{List, [], _∷_, _++_}
+use mathlib.Core.List.{List}
 use mathlib.Core.Path.{_≡_, refl, ap, ap₂, sym, _∙_}
-use Prim.Native.Nat.{ℕ, suc, _+_, _*_, _≤_, _<_}
+use Prim.Native.Nat.{ℕ, _≤_, _<_}
 use native.Mathlib.Omega.{arith}
 use lib.Dec.{eqb}
 use lib.ListN.{length}
@@ -11,16 +11,16 @@ use Rattle.format.specs.declared.Bin.{Bin}
 use Rattle.format.specs.declared.Node.{Node}
 use Rattle.format.specs.declared.Un.{Un}
 use Rattle.rules.specs.Rules.{binAct, unAct}
-use Rattle.rules.specs.Run.{Out, out, append, acted, keptAs, unaryRun, binaryRun, visit, isSub, weight, simplified}
+use Rattle.rules.specs.Run.{Out, out, append, acted, keptAs, unaryRun, binaryRun, visit, weight, simplified}
 use Rattle.rules.specs.declared.Act.{Act}
 use Rattle.theory.specs.Falls.{sub-le, Falls, unary-falls, binary-falls}
 use Rattle.theory.specs.Normal.{Normal}
 use Rattle.theory.specs.Reduced.{near-normal, reduced-nodes}
-use Rattle.theory.specs.Simulation.{Stands, Simulates, onward, appended-stands, acted-stands, kept-unary, kept-binary, unary-stands, binary-stands, simplified-stands, simplified-eq}
+use Rattle.theory.specs.Simulation.{Stands, Simulates, appended-stands, acted-stands, kept-unary, kept-binary, unary-stands, binary-stands, simplified-stands, simplified-eq}
 use Rattle.theory.specs.TreeRun.{actedTree, unaryTree, binaryTree, reduced}
 use Rattle.tree.specs.Arena.{at, treeAt, Ordered}
-use Rattle.tree.specs.ArenaLaws.{Extends, extends-refl, extends-trans, tree-stays, tree-eq}
-use Rattle.tree.specs.Tree.{Tree, top, entry, const, bind, unary, binary, path, isTop}
+use Rattle.tree.specs.ArenaLaws.{extends-refl, extends-trans, tree-stays, tree-eq}
+use Rattle.tree.specs.Tree.{Tree, top, entry, const, bind, unary, binary, isTop}
 
 -- WHETHER AN ACTION IS SIMPLIFIED AGAIN, and what is left where it is not
 

@@ -1,11 +1,11 @@
 -- Laws of arenas and of the trees in them: what is appended changes no tree below. Assumes nothing.
 use mathlib.Core.List.{List, [], _∷_, _++_}
-use mathlib.Core.Path.{_≡_, refl, ap, ap₂, sym, _∙_, subst}
-use Prim.Native.Nat.{ℕ, zero, suc, _+_, _*_, _≤_, _<_}
+use mathlib.Core.Path.{_≡_, refl, ap, ap₂, _∙_, subst}
+use Prim.Native.Nat.{ℕ, zero, suc, _+_, _≤_, _<_}
 use native.Mathlib.Decide.{decLt}
 use native.Mathlib.Nat.{le-refl}
 use native.Mathlib.Omega.{arith}
-use lib.ListN.{length, getD, length-append, List·getD-append}
+use lib.ListN.{length, length-append, List·getD-append}
 use lib.Seq.{getD-append-seam}
 use Rattle.format.specs.declared.Node.{Node}
 use Rattle.tree.specs.Arena.{nodeAt, nodesOf, at, build, unfolded, treeAt, Below, Ordered}

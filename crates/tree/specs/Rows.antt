@@ -6,7 +6,7 @@ use Prim.Native.Nat.{ℕ, zero, suc, _+_, _*_, _/_, _%_, _^_}
 use lib.Dec.{eqb, ltb}
 use lib.ListN.{length, getD}
 use Rattle.format.specs.Header.{sizeOf}
-use Rattle.format.specs.Nodes.{headerOf, payloadOf}
+use Rattle.format.specs.Nodes.{headerOf}
 use Rattle.format.specs.declared.Node.{Node}
 use Rattle.tree.specs.Arena.{at, nodesOf, treeAt}
 use Rattle.tree.specs.Form.{isSize, checked, verdictNumber, verdictPlace}

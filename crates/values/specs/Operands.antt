@@ -1,9 +1,8 @@
 -- What an operator of two children asks of its operands, by its rule of sizes. Assumes nothing.
-use mathlib.Core.Path.{_≡_}
-use Prim.Native.Nat.{ℕ, _*_, _^_, _≤_, _<_}
+use Prim.Native.Nat.{ℕ, _*_}
 use lib.Pow.{pow-mono}
 use native.Mathlib.Omega.{arith}
-use Rattle.arith.specs.Operands.{Size, Operand, Operands, Extension}
+use Rattle.arith.specs.Operands.{Operand, Operands, Extension}
 use Rattle.format.specs.declared.Sizing.{Sizing}
 
 -- operands of the node's size; a shift's amount may be any number; a flag's operands have the children's size

@@ -1,5 +1,4 @@
 -- The file's words are laid one after the other. Assumes nothing.
-use borrow.Author.Needs.{needs}
 use lib.ListN.{length, drop, length-set}
 use mathlib.Core.List.{_++_}
 use mathlib.Core.Path.{_≡_, refl}

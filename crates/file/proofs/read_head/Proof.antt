@@ -1,7 +1,6 @@
 -- A file's head: each test is the definition's. Assumes nothing.
 use borrow.Author.Needs.{needs}
-use native.Mathlib.Omega.{arith}
-use mathlib.Core.Path.{sym, ap, _∙_}
+use mathlib.Core.Path.{sym}
 use Rattle.file.specs.FileLaws.{short-file, count-too-large, other-length, whole-file}
 use Rattle.file.proofs.read_head.Statement.{statement}
 use Rattle.file.proofs.read_head.Tie as tie

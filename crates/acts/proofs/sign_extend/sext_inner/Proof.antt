@@ -1,7 +1,6 @@
 -- SignExtend to another size, by what it sees of its child. Assumes nothing.
 use borrow.Author.Needs.{needs}
 use borrow.Author.Tests.{le-leb, lt-leb}
-use native.Mathlib.Omega.{arith}
 use Rattle.acts.proofs.sign_extend.sext_inner.Statement.{statement}
 use Rattle.acts.proofs.sign_extend.sext_inner.Tie as tie
 

@@ -1,10 +1,9 @@
 -- Evaluate is the check, and then the evaluation. Assumes nothing.
 use borrow.Author.Needs.{needs}
-use mathlib.Core.Path.{ap, sym, _∙_}
+use mathlib.Core.Path.{sym, _∙_}
 use Rattle.eval.specs.Answers.{evaluatedLive}
 use Rattle.eval.specs.EvaluatedLaws.{evaluated-checked}
 use Rattle.formed.specs.LiveOfChecked.{live-of-checked}
-use Rattle.tree.specs.Rows.{passed}
 use Rattle.simplifier.proofs.Refused.{evaluate-refused}
 use Rattle.simplifier.proofs.calls.evaluate.Statement.{statement}
 use Rattle.simplifier.proofs.calls.evaluate.Tie as tie
