@@ -18,7 +18,7 @@ use Rattle.format.specs.declared.Bin.{Bin}
 use Rattle.format.specs.declared.Node.{Node}
 use Rattle.promises.specs.Bench.{answer42}
 use Rattle.promises.specs.Evaluation.{Assigns}
-use Rattle.promises.specs.FirstRows.{FirstBad, WithoutRow}
+use Rattle.promises.specs.FirstRows.{FirstBad, FirstWithoutRow}
 use Rattle.promises.specs.After.{DoneCall}
 use Rattle.promises.specs.Promises.{answering, Passed, past-check, Simplifying, simplifying, alike}
 use Rattle.promises.specs.Room.{Cleared}
@@ -173,6 +173,6 @@ bad-row-at-p1 = answering seven 5 4 .bad-row (answer42 ++ 7 ∷ []) 1 cut-short
 valueless-at-p1 : evaluatedValue (evaluated seven 5 4 (answer42 ++ 7 ∷ [])) ≡ 0
 valueless-at-p1 = answering seven 5 4 .valueless (answer42 ++ 7 ∷ []) (λ e. let z = sym (ap evaluatedNumber cut-short) ∙ e in omega arith)
 
-missing-at-p1 : WithoutRow [] (at (nodesOf 5 seven) 0)
+missing-at-p1 : FirstWithoutRow [] (nodesOf 5 seven) (0 ∷ []) 0
 unfolding evaluated missing foundFrom badRowFrom goodRow checked scanned judged wellFormed wellSized rowOf shapeOf nodeOf treeAt
 missing-at-p1 = answering seven 5 4 .missing-input [] 0 refl

@@ -1,9 +1,9 @@
--- What evaluation's places are: a bad row that is named is the first, and a node that is named is an input without a row. Assumes nothing.
+-- What evaluation's places are: a bad row that is named is the first, and so is an input without a row. Assumes nothing.
 use mathlib.Core.Bool.{true, false}
-use mathlib.Core.List.{List}
+use mathlib.Core.List.{List, [], _∷_, _++_, append-assoc}
 use mathlib.Core.Logic.{_⊎_, inl, inr, ⊎-elim}
 use mathlib.Core.Option.{Option, some, none}
-use mathlib.Core.Path.{_≡_, refl, subst}
+use mathlib.Core.Path.{_≡_, refl, subst, sym}
 use Prim.Native.Nat.{ℕ, zero, suc, _+_, _/_, _%_, _≤_, _<_}
 use native.Mathlib.Nat.{eq-or-lt-of-le}
 use native.Mathlib.Omega.{arith}
@@ -70,33 +70,83 @@ WithoutRow rows (Node.Bind size id) = found rows (headerOf (Node.Bind size id)) 
 WithoutRow rows (Node.Unary op size left) = ⊥
 WithoutRow rows (Node.Binary op size left right) = ⊥
 
-not-found : (row : Option ℕ) (i j : ℕ) → unlessFound row i ≡ some j → (row ≡ none) × (i ≡ j)
-not-found none i j e = (refl, cc)
-not-found (some v) i j e = let z : _≡_ {A = ℕ} 0 1 = cc in absurd (omega arith)
+-- the inputs under node i, left before right, each as often as it is reached
+abbrev inputsStep : (ℕ → List ℕ) → ℕ → Node → List ℕ
+inputsStep inputs i Node.Top = []
+inputsStep inputs i (Node.Entry size space offset) = i ∷ []
+inputsStep inputs i (Node.Const size value) = []
+inputsStep inputs i (Node.Bind size id) = i ∷ []
+inputsStep inputs i (Node.Unary op size left) = inputs left
+inputsStep inputs i (Node.Binary op size left right) = inputs left ++ inputs right
 
-one-of : (a b : Option ℕ) (j : ℕ) → firstOf a b ≡ some j → (a ≡ some j) ⊎ (b ≡ some j)
-one-of none b j e = inr e
-one-of (some i) b j e = inl e
+abbrev inputsFrom : List Node → (steps i : ℕ) → List ℕ
+inputsFrom arena zero i = []
+inputsFrom arena (suc steps) i = inputsStep (inputsFrom arena steps) i (at arena i)
+
+abbrev pub inputs : List Node → ℕ → List ℕ
+inputs arena i = inputsFrom arena (suc i) i
+
+-- node j is the first of an order that is an input without a row
+abbrev pub NoneWithoutRow : List ℕ → List Node → List ℕ → Type 0
+NoneWithoutRow rows arena [] = Unit {0}
+NoneWithoutRow rows arena (i ∷ order) = (WithoutRow rows (at arena i) → ⊥) × NoneWithoutRow rows arena order
+
+pub record FirstWithoutRow (rows : List ℕ) (arena : List Node) (order : List ℕ) (j : ℕ) : Type 0 where
+  pub before : List ℕ
+  pub after : List ℕ
+  pub order-is : order ≡ before ++ (j ∷ after)
+  pub none-before : NoneWithoutRow rows arena before
+  pub without-row : WithoutRow rows (at arena j)
+
+abbrev Names : List ℕ → List Node → List ℕ → Option ℕ → Type 0
+Names rows arena order none = NoneWithoutRow rows arena order
+Names rows arena order (some j) = FirstWithoutRow rows arena order j
 
 module _ (rows : List ℕ) (arena : List Node) where
-  module _ (f : ℕ → Option ℕ) (below : (i j : ℕ) → f i ≡ some j → WithoutRow rows (at arena j)) where
-    step-names : (i j : ℕ) (node : Node) → at arena i ≡ node → missingStep rows f i node ≡ some j → WithoutRow rows (at arena j)
-    step-names i j Node.Top is e = let z : _≡_ {A = ℕ} 0 1 = cc in absurd (omega arith)
-    step-names i j (Node.Entry s space offset) is e =
-        let gone = not-found (found rows (headerOf (Node.Entry s space offset)) offset) i j e in
-        rw (← (gone .1), is) (gone .0)
-    step-names i j (Node.Const s v) is e = let z : _≡_ {A = ℕ} 0 1 = cc in absurd (omega arith)
-    step-names i j (Node.Bind s id) is e =
-        let gone = not-found (found rows (headerOf (Node.Bind s id)) id) i j e in
-        rw (← (gone .1), is) (gone .0)
-    step-names i j (Node.Unary op s left) is e = below left j e
-    step-names i j (Node.Binary op s left right) is e = ⊎-elim (below left j) (below right j) (one-of (f left) (f right) j e)
+  none-in-both : (p q : List ℕ) → NoneWithoutRow rows arena p → NoneWithoutRow rows arena q → NoneWithoutRow rows arena (p ++ q)
+  none-in-both [] q a b = b
+  none-in-both (i ∷ p) q a b = (a .0, none-in-both p q (a .1) b)
 
-  from-names : (steps i j : ℕ) → missingFrom rows arena steps i ≡ some j → WithoutRow rows (at arena j)
-  from-names zero i j e = let z : _≡_ {A = ℕ} 0 1 = cc in absurd (omega arith)
-  from-names (suc steps) i j e = step-names (missingFrom rows arena steps) (from-names steps) i j (at arena i) refl e
+  -- the left child's inputs, then the right one's
+  both-name : (p q : List ℕ) (a b : Option ℕ) → Names rows arena p a → Names rows arena q b → Names rows arena (p ++ q) (firstOf a b)
+  both-name p q none none l r = none-in-both p q l r
+  both-name p q none (some j) l r = record {
+    before = p ++ r .before;
+    after = r .after;
+    order-is = rw (r .order-is) (sym (append-assoc p (r .before) (j ∷ r .after)));
+    none-before = none-in-both p (r .before) l (r .none-before);
+    without-row = r .without-row;
+  }
+  both-name p q (some j) b l r = record {
+    before = l .before;
+    after = l .after ++ q;
+    order-is = rw (l .order-is) (append-assoc (l .before) (j ∷ l .after) q);
+    none-before = l .none-before;
+    without-row = l .without-row;
+  }
 
-  -- 01, answer 9: the index of an input without a row
-  pub missing-has-no-row : (i j : ℕ) → missing rows arena i ≡ some j → WithoutRow rows (at arena j)
+  -- a single input, by its row
+  module _ (i : ℕ) (node : Node) (is : at arena i ≡ node) where
+    input-names : (row : Option ℕ) → (row ≡ none → WithoutRow rows node) → (WithoutRow rows node → row ≡ none) → Names rows arena (i ∷ []) (unlessFound row i)
+    input-names none absent p =
+        record { before = []; after = []; order-is = refl; none-before = tt; without-row = rw is (absent refl) }
+    input-names (some v) absent present = (λ w. let e = present (rw is at w) in let z : _≡_ {A = ℕ} 0 1 = cc in absurd (omega arith), tt)
+
+  module _ (list : ℕ → List ℕ) (first : ℕ → Option ℕ) (below : (i : ℕ) → Names rows arena (list i) (first i)) where
+    step-names : (i : ℕ) (node : Node) → at arena i ≡ node → Names rows arena (inputsStep list i node) (missingStep rows first i node)
+    step-names i Node.Top is = tt
+    step-names i (Node.Entry s space offset) is =
+        input-names i (Node.Entry s space offset) is (found rows (headerOf (Node.Entry s space offset)) offset) (λ e. e) (λ w. w)
+    step-names i (Node.Const s v) is = tt
+    step-names i (Node.Bind s id) is = input-names i (Node.Bind s id) is (found rows (headerOf (Node.Bind s id)) id) (λ e. e) (λ w. w)
+    step-names i (Node.Unary op s left) is = below left
+    step-names i (Node.Binary op s left right) is = both-name (list left) (list right) (first left) (first right) (below left) (below right)
+
+  from-names : (steps i : ℕ) → Names rows arena (inputsFrom arena steps i) (missingFrom rows arena steps i)
+  from-names zero i = tt
+  from-names (suc steps) i = step-names (inputsFrom arena steps) (missingFrom rows arena steps) (from-names steps) i (at arena i) refl
+
+  -- 01, answer 9: the index of the first input without a row, left before right
+  pub missing-is-first : (i j : ℕ) → missing rows arena i ≡ some j → FirstWithoutRow rows arena (inputs arena i) j
   unfolding missing
-  missing-has-no-row i j e = from-names (suc i) i j e
+  missing-is-first i j e = subst (Names rows arena (inputs arena i)) e (from-names (suc i) i)

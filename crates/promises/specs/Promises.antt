@@ -15,7 +15,7 @@ use Rattle.promises.specs.Answers.{SimplifyLine, simplified-exactly}
 use Rattle.promises.specs.Check.{no-more-nodes, no-longer-path, passes-after}
 use Rattle.promises.specs.Evaluation.{Assigns, evaluation-total, value-fits-size}
 use Rattle.promises.specs.EvaluationAnswers.{EvaluationLine, evaluated-exactly, answer-fits}
-use Rattle.promises.specs.FirstRows.{FirstBad, bad-row-is-first, WithoutRow, missing-has-no-row}
+use Rattle.promises.specs.FirstRows.{FirstBad, bad-row-is-first, inputs, FirstWithoutRow, missing-is-first}
 use Rattle.promises.specs.After.{DoneCall, with-room, nodes-after}
 use Rattle.promises.specs.Room.{refused-alters-nothing, root-and-count, no-value, Cleared, no-room-clears, Appended, done-appends, done-count, words64-always}
 use Rattle.promises.specs.Steps.{more-steps-answer, more-steps-words}
@@ -26,7 +26,7 @@ use Rattle.rules.specs.Bench.{seen, expected, bench, bench-holds}
 use Rattle.rules.specs.Call.{ranOn, fits, ended, simplifiedAnswer, wordsLeft, wordsAfter, simplifiedNumber, simplifiedRoot, simplifiedCount}
 use Rattle.rules.specs.Run.{runFor, weight}
 use Rattle.rules.specs.declared.Simplified.{Simplified}
-use Rattle.tree.specs.Arena.{at, nodesOf}
+use Rattle.tree.specs.Arena.{nodesOf}
 use Rattle.tree.specs.Form.{checked}
 use Rattle.tree.specs.Meaning.{Assignment, Fitting, value}
 use Rattle.tree.specs.Rows.{rowWords, assigned, evaluated, evaluatedNumber, evaluatedValue}
@@ -49,9 +49,10 @@ pub record Answering (words : List ℕ) (count root : ℕ) : Type 0 where
   pub unmoved : (simplifiedNumber (simplifiedAnswer words count root) ≡ 0 → ⊥) →
       (simplifiedRoot (simplifiedAnswer words count root) ≡ 0) × (simplifiedCount (simplifiedAnswer words count root) count ≡ count)
   pub valueless : (rows : List ℕ) → (evaluatedNumber (evaluated words count root rows) ≡ 0 → ⊥) → evaluatedValue (evaluated words count root rows) ≡ 0
-  -- 01, answers 8 and 9: the first bad row's number, and the index of an input without a row
+  -- 01, answers 8 and 9: the first bad row's number, and the index of the first input without a row, left before right
   pub bad-row : (rows : List ℕ) (j : ℕ) → evaluated words count root rows ≡ Evaluated.BadRow j → FirstBad rows (length rows / rowWords) 0 j
-  pub missing-input : (rows : List ℕ) (i : ℕ) → evaluated words count root rows ≡ Evaluated.InputMissing i → WithoutRow rows (at (nodesOf count words) i)
+  pub missing-input : (rows : List ℕ) (i : ℕ) → evaluated words count root rows ≡ Evaluated.InputMissing i →
+      FirstWithoutRow rows (nodesOf count words) (inputs (nodesOf count words) root) i
 
 pub answering : (words : List ℕ) (count root : ℕ) → Answering words count root
 answering words count root = record {
@@ -64,7 +65,7 @@ answering words count root = record {
   unmoved = root-and-count (simplifiedAnswer words count root) count;
   valueless = λ rows. no-value (evaluated words count root rows);
   bad-row = λ rows j e. bad-row-is-first rows j (evaluated-exactly words count root rows (Evaluated.BadRow j) .0 e .1);
-  missing-input = λ rows i e. missing-has-no-row rows (nodesOf count words) root i (evaluated-exactly words count root rows (Evaluated.InputMissing i) .0 e .3);
+  missing-input = λ rows i e. missing-is-first rows (nodesOf count words) root i (evaluated-exactly words count root rows (Evaluated.InputMissing i) .0 e .3);
 }
 
 -- WHAT PASSES THE CHECK
