@@ -86,11 +86,12 @@ inputsFrom arena (suc steps) i = inputsStep (inputsFrom arena steps) i (at arena
 abbrev pub inputs : List Node → ℕ → List ℕ
 inputs arena i = inputsFrom arena (suc i) i
 
--- node j is the first of an order that is an input without a row
+-- no node of an order is an input without a row
 abbrev pub NoneWithoutRow : List ℕ → List Node → List ℕ → Type 0
 NoneWithoutRow rows arena [] = Unit {0}
 NoneWithoutRow rows arena (i ∷ order) = (WithoutRow rows (at arena i) → ⊥) × NoneWithoutRow rows arena order
 
+-- node j is the first of an order that is one
 pub record FirstWithoutRow (rows : List ℕ) (arena : List Node) (order : List ℕ) (j : ℕ) : Type 0 where
   pub before : List ℕ
   pub after : List ℕ

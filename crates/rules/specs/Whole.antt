@@ -13,6 +13,7 @@ use Rattle.rules.specs.declared.Simplified.{Simplified}
 use Rattle.tree.specs.Arena.{treeAt}
 use Rattle.tree.specs.Form.{wellFormed, wellSized, judged, scanned, checked}
 use Rattle.tree.specs.Tree.{un-discrete, bin-discrete, same}
+use Rattle.tree.specs.declared.Verdict.{Verdict}
 
 -- the words of (x - 5) + 3, with root 4 and count 5, and what lies after them
 abbrev pub p1 : List ℕ → List ℕ
@@ -57,6 +58,15 @@ p1-no-room = refl
 pub p1-cleared : wordsAfter six 5 4 ≡ p1 (0 ∷ 0 ∷ 0xE ∷ [])
 unfolding wordsAfter simplifiedAnswer checked scanned judged wellFormed wellSized rowOf shapeOf nodeOf treeAt same ℕ-discrete un-discrete bin-discrete
 p1-cleared = refl
+
+-- the same slice with a root past its nodes is refused, and no word changes
+pub p1-refused : simplifiedAnswer six 5 5 ≡ Simplified.Refused Verdict.RootNotBelowCount
+unfolding simplifiedAnswer checked
+p1-refused = refl
+
+pub p1-left-alone : wordsAfter six 5 5 ≡ six
+unfolding wordsAfter simplifiedAnswer checked
+p1-left-alone = refl
 
 -- WHERE NEW NODES LIE: of (1 + 2) - (3 + 4) the left sum before the right one, and then the difference
 abbrev sums : List Node
