@@ -15,7 +15,7 @@ use Rattle.format.specs.declared.Un.{Un}
 use Rattle.rules.specs.Rules.{binAct, unAct}
 use Rattle.rules.specs.Run.{Out, append, keptAs, makeConst, near}
 use Rattle.rules.specs.declared.Act.{Act}
-use Rattle.settle.specs.declared.settle.Op.{Op}
+use Rattle.settle.specs.declared.writer.Op.{Op}
 use Rattle.theory.specs.Simulation.{near-stands}
 use Rattle.theory.specs.Sizes.{size-bounds, bin-isSize, un-isSize}
 use Rattle.theory.specs.TreeRun.{constTree}

@@ -1,9 +1,9 @@
-// Which rules of two children simplify again.
+// Whose turn it is when a rule of two children has rebuilt a node.
 ghost use mathlib.Core.Path.{_≡_};
 ghost use Rattle.settle.specs.Turns.{turnOf};
 use format::Bin;
 
-// Which rules of two children simplify again what they have rebuilt.
+// Add's and Sub's are simplified again; a plain rule rebuilds nothing.
 pub enum Turn {
     Add,
     Sub,

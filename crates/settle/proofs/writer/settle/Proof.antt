@@ -1,8 +1,8 @@
 -- The writer carries an action out: each node that it makes is appended. Assumes nothing.
 use borrow.Author.Needs.{needs}
 use Rattle.settle.specs.Chains.{ended-here, redo-unfinished, redo-ended}
-use Rattle.settle.proofs.settle.settle.Statement.{statement}
-use Rattle.settle.proofs.settle.settle.Tie as tie
+use Rattle.settle.proofs.writer.settle.Statement.{statement}
+use Rattle.settle.proofs.writer.settle.Tie as tie
 
 enum-told : tie.Need-enum-told
 enum-told c = search needs

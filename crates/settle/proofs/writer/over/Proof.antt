@@ -1,7 +1,7 @@
 -- An operator's node. Assumes nothing.
 use borrow.Author.Needs.{needs}
-use Rattle.settle.proofs.settle.over.Statement.{statement}
-use Rattle.settle.proofs.settle.over.Tie as tie
+use Rattle.settle.proofs.writer.over.Statement.{statement}
+use Rattle.settle.proofs.writer.over.Tie as tie
 
 enum-known-op : tie.Need-enum-known-op
 enum-known-op c = search needs
