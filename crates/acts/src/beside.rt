@@ -4,7 +4,7 @@ ghost use Rattle.arith.specs.Operands.{Size};
 ghost use Rattle.manual.specs.Operations.{intSub};
 ghost use Rattle.rules.specs.Rules.{ruleOf, moved as movedBy};
 use crate::add::add_beside;
-use crate::flags::flag_beside;
+use crate::flag::flag_beside;
 use crate::mul::mul_beside;
 use crate::or::or_beside;
 use crate::shift::shift_beside;

@@ -2,7 +2,7 @@
 mod add;
 mod beside;
 pub mod decide;
-mod flags;
+mod flag;
 mod int2comp;
 mod mul;
 mod or;
