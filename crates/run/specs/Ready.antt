@@ -4,7 +4,6 @@ use mathlib.Core.List.{List}
 use mathlib.Core.Path.{_≡_, refl, ap, sym, _∙_}
 use Prim.Native.Nat.{ℕ, _<_}
 use native.Mathlib.Omega.{arith}
-use lib.ListN.{length}
 use Rattle.arena.specs.Ended.{Ended}
 use Rattle.arena.specs.Live.{Live, New, treeOf, nodeIsTop, nodeIsLeaf}
 use Rattle.arena.specs.LiveLaws.{live-ordered, in-arena, top-at, tree-of-node}
@@ -24,7 +23,7 @@ use Rattle.theory.specs.TreeRun.{reduced}
 use Rattle.theory.specs.Values.{over-reduced-one, over-reduced-two}
 use Rattle.theory.specs.Visits.{OverNormal, leaf-top, leaf-entry, leaf-const, leaf-bind}
 use Rattle.tree.specs.Arena.{nodeAt, nodesOf}
-use Rattle.tree.specs.ArenaLaws.{length-nodesOf, at-nodesOf, tree-stays}
+use Rattle.tree.specs.ArenaLaws.{at-nodesOf, tree-stays}
 use Rattle.tree.specs.Form.{Sized, sized, unSizing, binSizing, sizeSeen}
 use Rattle.tree.specs.Tree.{Tree, unary, binary, isTop, hasTop}
 
@@ -105,11 +104,8 @@ top-read live a h node test answer p q r = top-at live a h ∙ ap nodeIsTop (sym
 
 module _ {words : List ℕ} {n : ℕ} (live : Live words n) (i : ℕ) (hi : i < n) where
   module _ (op : Un) (s j : ℕ) (e : nodeAt words i ≡ Node.Unary op s j) (mid : List ℕ) (a m : ℕ) (h : Ended words mid n (simplified (nodesOf n words) j) (Step.Done a m)) where
-    inside : (x : ℕ) → x < n → x < length (nodesOf n words)
-    inside x b = omega (arith, length-nodesOf n words)
-
     child-is : treeOf m mid a ≡ reduced (treeOf n words j)
-    child-is = rw (h .ran .nodes-are, h .ran .root-is) (simplified-stands (nodesOf n words) (live-ordered live) j (inside j (unary-child live i hi op s j e .0)) .is)
+    child-is = rw (h .ran .nodes-are, h .ran .root-is) (simplified-stands (nodesOf n words) (live-ordered live) j (in-arena live j (unary-child live i hi op s j e .0)) .is)
 
     node-sized : Sized (unary op s (treeOf n words j))
     node-sized = rw (tree-of-node live i hi (Node.Unary op s j) e) at (live .sized i hi)
@@ -132,9 +128,6 @@ module _ {words : List ℕ} {n : ℕ} (live : Live words n) (i : ℕ) (hi : i < 
     abbrev kids : (j < n) × (k < n) × (weight (treeOf n words j) < weight (treeOf n words i))
     kids = binary-children live i hi op s j k e
 
-    in-first : (x : ℕ) → x < n → x < length (nodesOf n words)
-    in-first x b = omega (arith, length-nodesOf n words)
-
     -- the right child may be simplified
     pub right-child : Live mid m × (k < m)
     right-child =
@@ -142,23 +135,20 @@ module _ {words : List ℕ} {n : ℕ} (live : Live words n) (i : ℕ) (hi : i < 
         (f .live, omega (arith, f .more, kids .1))
 
     left-is : treeOf m mid a ≡ reduced (treeOf n words j)
-    left-is = rw (h .ran .nodes-are, h .ran .root-is) (simplified-stands (nodesOf n words) (live-ordered live) j (in-first j (kids .0)) .is)
+    left-is = rw (h .ran .nodes-are, h .ran .root-is) (simplified-stands (nodesOf n words) (live-ordered live) j (in-arena live j (kids .0)) .is)
 
     right-same : treeOf m mid k ≡ treeOf n words k
-    right-same = rw (h .ran .nodes-are) (tree-stays (live-ordered live) (simplified-stands (nodesOf n words) (live-ordered live) j (in-first j (kids .0)) .extends) (in-first k (kids .1)))
+    right-same = rw (h .ran .nodes-are) (tree-stays (live-ordered live) (simplified-stands (nodesOf n words) (live-ordered live) j (in-arena live j (kids .0)) .extends) (in-arena live k (kids .1)))
 
     module _ (late : List ℕ) (c p : ℕ) (g : Ended mid late m (simplified (nodesOf m mid) k) (Step.Done c p)) where
-      in-second : (x : ℕ) → x < m → x < length (nodesOf m mid)
-      in-second x b = omega (arith, length-nodesOf m mid)
-
       right-is : treeOf p late c ≡ reduced (treeOf n words k)
       right-is =
-          rw (g .ran .nodes-are, g .ran .root-is) (simplified-stands (nodesOf m mid) (live-ordered (right-child .0)) k (in-second k (right-child .1)) .is) ∙ ap reduced right-same
+          rw (g .ran .nodes-are, g .ran .root-is) (simplified-stands (nodesOf m mid) (live-ordered (right-child .0)) k (in-arena (right-child .0) k (right-child .1)) .is) ∙ ap reduced right-same
 
       left-stays : treeOf p late a ≡ reduced (treeOf n words j)
       left-stays =
           let f = after-run live i j a m hi (kids .0) h in
-          rw (g .ran .nodes-are) (tree-stays (live-ordered (right-child .0)) (simplified-stands (nodesOf m mid) (live-ordered (right-child .0)) k (in-second k (right-child .1)) .extends) (in-second a (f .below))) ∙ left-is
+          rw (g .ran .nodes-are) (tree-stays (live-ordered (right-child .0)) (simplified-stands (nodesOf m mid) (live-ordered (right-child .0)) k (in-arena (right-child .0) k (right-child .1)) .extends) (in-arena (right-child .0) a (f .below))) ∙ left-is
 
       both-sized : Sized (binary op s (treeOf n words j) (treeOf n words k))
       both-sized = rw (tree-of-node live i hi (Node.Binary op s j k) e) at (live .sized i hi)

@@ -9,7 +9,7 @@ use lib.Dec.{eqb}
 use lib.ListN.{length, getD}
 use Rattle.arena.specs.Ended.{Did, Ran, Ended}
 use Rattle.arena.specs.Live.{Live, treeOf}
-use Rattle.arena.specs.LiveLaws.{live-ordered}
+use Rattle.arena.specs.LiveLaws.{in-arena, live-ordered}
 use Rattle.arena.specs.declared.Step.{Step}
 use Rattle.format.specs.Limits.{nodeWords}
 use Rattle.format.specs.Nodes.{nodeOf}
@@ -124,16 +124,13 @@ module _ (words : List ℕ) (n : ℕ) (act : Act) (kept swapped : Out) (s a b : 
 -- what the code has decided on a node of two children
 module _ (words : List ℕ) (n : ℕ) (live : Live words n) (i : ℕ) (hi : i < n) (op : Bin) (s j k : ℕ) (e : nodeAt words i ≡ Node.Binary op s j k) (a b : ℕ) (ha : a < n) (hb : b < n)
     (act : Act) (eA : act ≡ binAct op s (treeOf n words a) (treeOf n words b)) (kept : Bool) (ek : kept ≡ (eqb a j && eqb b k)) where
-  inside : (x : ℕ) → x < n → x < length (nodesOf n words)
-  inside x h = omega (arith, length-nodesOf n words)
-
   abbrev pub partTwo : Out
   partTwo = carried act (keptAs kept i (Node.Binary op s a b) (nodesOf n words)) (append (Node.Binary op s b a) (nodesOf n words)) s (nodesOf n words) a b
 
   abbrev pub wholeTwo : Out
   wholeTwo = binaryRun simplified false i op s j k (nodesOf n words) a b
 
-  same-part : partTwo ≡ carriedTwo (nodesOf n words) (live-ordered live) i (inside i hi) s op j k (at-nodesOf n words i hi ∙ e) a b (inside a ha) (inside b hb)
+  same-part : partTwo ≡ carriedTwo (nodesOf n words) (live-ordered live) i (in-arena live i hi) s op j k (at-nodesOf n words i hi ∙ e) a b (in-arena live a ha) (in-arena live b hb)
   same-part = rw (eA, ek)
 
   same-whole : acted simplified act (keptAs kept i (Node.Binary op s a b) (nodesOf n words)) (append (Node.Binary op s b a) (nodesOf n words)) s (nodesOf n words) a b ≡ wholeTwo
@@ -144,7 +141,7 @@ module _ (words : List ℕ) (n : ℕ) (live : Live words n) (i : ℕ) (hi : i < 
 
   S : Stands (nodesOf n words) T partTwo
   unfolding T
-  S = rw same-part (carried-two-stands (nodesOf n words) (live-ordered live) i (inside i hi) s op j k (at-nodesOf n words i hi ∙ e) a b (inside a ha) (inside b hb))
+  S = rw same-part (carried-two-stands (nodesOf n words) (live-ordered live) i (in-arena live i hi) s op j k (at-nodesOf n words i hi ∙ e) a b (in-arena live a ha) (in-arena live b hb))
 
   pub two-unfinished : (after : List ℕ) → Ended words after n partTwo Step.NoRoom → Ended words after n wholeTwo Step.NoRoom
   two-unfinished after h = rw (← same-whole) (rule-unfinished words n act _ _ s a b T S after h)
@@ -160,27 +157,24 @@ module _ (words : List ℕ) (n : ℕ) (live : Live words n) (i : ℕ) (hi : i < 
       weight (treeOf m mid root) < weight (binary op s (treeOf n words a) (treeOf n words b))
   two-falls mid root m q h =
       rw (h .ran .nodes-are, h .ran .root-is, same-part)
-      (carried-two-lighter (nodesOf n words) (live-ordered live) i (inside i hi) s op j k (at-nodesOf n words i hi ∙ e) a b (inside a ha) (inside b hb) (rw eA at q))
+      (carried-two-lighter (nodesOf n words) (live-ordered live) i (in-arena live i hi) s op j k (at-nodesOf n words i hi ∙ e) a b (in-arena live a ha) (in-arena live b hb) (rw eA at q))
 
   pub two-redo-over-normal : (mid : List ℕ) (root m : ℕ) → redoes act ≡ true → Ended words mid n partTwo (Step.Done root m) → Normal (treeOf n words a) → Normal (treeOf n words b) →
       OverNormal (treeOf m mid root)
   two-redo-over-normal mid root m q h p p′ =
       rw (h .ran .nodes-are, h .ran .root-is, same-part)
-      (carried-two-over-normal (nodesOf n words) (live-ordered live) i (inside i hi) s op j k (at-nodesOf n words i hi ∙ e) a b (inside a ha) (inside b hb) (rw eA at q) p p′)
+      (carried-two-over-normal (nodesOf n words) (live-ordered live) i (in-arena live i hi) s op j k (at-nodesOf n words i hi ∙ e) a b (in-arena live a ha) (in-arena live b hb) (rw eA at q) p p′)
 
 -- and on a node of one
 module _ (words : List ℕ) (n : ℕ) (live : Live words n) (i : ℕ) (hi : i < n) (op : Un) (s j : ℕ) (e : nodeAt words i ≡ Node.Unary op s j) (a : ℕ) (ha : a < n)
     (act : Act) (eA : act ≡ unAct op s (treeOf n words a)) (kept : Bool) (ek : kept ≡ eqb a j) where
-  inside-one : (x : ℕ) → x < n → x < length (nodesOf n words)
-  inside-one x h = omega (arith, length-nodesOf n words)
-
   abbrev pub partOne : Out
   partOne = carried act (keptAs kept i (Node.Unary op s a) (nodesOf n words)) (append (Node.Unary op s a) (nodesOf n words)) s (nodesOf n words) a a
 
   abbrev pub wholeOne : Out
   wholeOne = unaryRun simplified false i op s j (nodesOf n words) a
 
-  same-part-one : partOne ≡ carriedOne (nodesOf n words) (live-ordered live) i (inside-one i hi) s op j (at-nodesOf n words i hi ∙ e) a (inside-one a ha)
+  same-part-one : partOne ≡ carriedOne (nodesOf n words) (live-ordered live) i (in-arena live i hi) s op j (at-nodesOf n words i hi ∙ e) a (in-arena live a ha)
   same-part-one = rw (eA, ek)
 
   same-whole-one : acted simplified act (keptAs kept i (Node.Unary op s a) (nodesOf n words)) (append (Node.Unary op s a) (nodesOf n words)) s (nodesOf n words) a a ≡ wholeOne
@@ -191,7 +185,7 @@ module _ (words : List ℕ) (n : ℕ) (live : Live words n) (i : ℕ) (hi : i < 
 
   S₁ : Stands (nodesOf n words) T₁ partOne
   unfolding T₁
-  S₁ = rw same-part-one (carried-one-stands (nodesOf n words) (live-ordered live) i (inside-one i hi) s op j (at-nodesOf n words i hi ∙ e) a (inside-one a ha))
+  S₁ = rw same-part-one (carried-one-stands (nodesOf n words) (live-ordered live) i (in-arena live i hi) s op j (at-nodesOf n words i hi ∙ e) a (in-arena live a ha))
 
   pub one-unfinished : (after : List ℕ) → Ended words after n partOne Step.NoRoom → Ended words after n wholeOne Step.NoRoom
   one-unfinished after h = rw (← same-whole-one) (rule-unfinished words n act _ _ s a a T₁ S₁ after h)
@@ -207,12 +201,12 @@ module _ (words : List ℕ) (n : ℕ) (live : Live words n) (i : ℕ) (hi : i < 
       weight (treeOf m mid root) < weight (unary op s (treeOf n words a))
   one-redo-falls mid root m q h =
       rw (h .ran .nodes-are, h .ran .root-is, same-part-one)
-      (carried-one-lighter (nodesOf n words) (live-ordered live) i (inside-one i hi) s op j (at-nodesOf n words i hi ∙ e) a (inside-one a ha) (rw eA at q))
+      (carried-one-lighter (nodesOf n words) (live-ordered live) i (in-arena live i hi) s op j (at-nodesOf n words i hi ∙ e) a (in-arena live a ha) (rw eA at q))
 
   pub one-redo-over-normal : (mid : List ℕ) (root m : ℕ) → redoes act ≡ true → Ended words mid n partOne (Step.Done root m) → Normal (treeOf n words a) → OverNormal (treeOf m mid root)
   one-redo-over-normal mid root m q h p =
       rw (h .ran .nodes-are, h .ran .root-is, same-part-one)
-      (carried-one-over-normal (nodesOf n words) (live-ordered live) i (inside-one i hi) s op j (at-nodesOf n words i hi ∙ e) a (inside-one a ha) (rw eA at q) p)
+      (carried-one-over-normal (nodesOf n words) (live-ordered live) i (in-arena live i hi) s op j (at-nodesOf n words i hi ∙ e) a (in-arena live a ha) (rw eA at q) p)
 
 -- A NODE, after the run of a child
 
@@ -236,63 +230,57 @@ after-run {words} {after} {n} live i j a m hi hj h =
 
 -- A NODE OF ONE CHILD
 module _ {words : List ℕ} {n : ℕ} (live : Live words n) (i : ℕ) (hi : i < n) (op : Un) (s j : ℕ) (e : nodeAt words i ≡ Node.Unary op s j) where
-  b₁ : i < length (nodesOf n words)
-  b₁ = omega (arith, length-nodesOf n words)
-
   e₁ : at (nodesOf n words) i ≡ Node.Unary op s j
   e₁ = at-nodesOf n words i hi ∙ e
 
   pub unary-child : (j < n) × (weight (treeOf n words j) < weight (treeOf n words i))
   unary-child =
-      let z = one-below (nodesOf n words) (live-ordered live) i b₁ op s j e₁ in
-      (omega arith, one-falls (nodesOf n words) (live-ordered live) i b₁ op s j e₁)
+      let z = one-below (nodesOf n words) (live-ordered live) i (in-arena live i hi) op s j e₁ in
+      (omega arith, one-falls (nodesOf n words) (live-ordered live) i (in-arena live i hi) op s j e₁)
 
   pub unary-unfinished : (mid : List ℕ) → Ended words mid n (simplified (nodesOf n words) j) Step.NoRoom → Ended words mid n (simplified (nodesOf n words) i) Step.NoRoom
-  unary-unfinished mid h = unfinished words mid n _ _ (one-grows (nodesOf n words) (live-ordered live) i b₁ op s j e₁) h
+  unary-unfinished mid h = unfinished words mid n _ _ (one-grows (nodesOf n words) (live-ordered live) i (in-arena live i hi) op s j e₁) h
 
   module _ (mid : List ℕ) (a m : ℕ) (h : Ended words mid n (simplified (nodesOf n words) j) (Step.Done a m)) where
     pub unary-lighter : weight (unary op s (treeOf m mid a)) ≤ weight (treeOf n words i)
-    unary-lighter = rw (h .ran .nodes-are, h .ran .root-is) (one-lighter (nodesOf n words) (live-ordered live) i b₁ op s j e₁)
+    unary-lighter = rw (h .ran .nodes-are, h .ran .root-is) (one-lighter (nodesOf n words) (live-ordered live) i (in-arena live i hi) op s j e₁)
 
     pub unary-ended : (after : List ℕ) (x : Step) (c : Bool) → isTop (treeOf m mid a) ≡ c → Ended mid after m (unaryRun simplified c i op s j (nodesOf m mid) a) x →
         Ended words after n (simplified (nodesOf n words) i) x
     unary-ended after x c q g =
         let f = after-run live i j a m hi (unary-child .0) h in
-        let l = one-grows (nodesOf n words) (live-ordered live) i b₁ op s j e₁ in
+        let l = one-grows (nodesOf n words) (live-ordered live) i (in-arena live i hi) op s j e₁ in
         let d = did-length (h .ran) in
         chained words mid after n a m (simplified (nodesOf n words) j) (simplified (nodesOf n words) i) x (f .more) (omega arith) h
-        (rw (one-eq (nodesOf n words) (live-ordered live) i b₁ op s j e₁ (nodesOf m mid) a (h .ran .nodes-are) (h .ran .root-is), q) g)
+        (rw (one-eq (nodesOf n words) (live-ordered live) i (in-arena live i hi) op s j e₁ (nodesOf m mid) a (h .ran .nodes-are) (h .ran .root-is), q) g)
 
 -- A NODE OF TWO CHILDREN
 module _ {words : List ℕ} {n : ℕ} (live : Live words n) (i : ℕ) (hi : i < n) (op : Bin) (s j k : ℕ) (e : nodeAt words i ≡ Node.Binary op s j k) where
-  b₂ : i < length (nodesOf n words)
-  b₂ = omega (arith, length-nodesOf n words)
-
   e₂ : at (nodesOf n words) i ≡ Node.Binary op s j k
   e₂ = at-nodesOf n words i hi ∙ e
 
   pub binary-children : (j < n) × (k < n) × (weight (treeOf n words j) < weight (treeOf n words i))
   binary-children =
-      let z = two-below (nodesOf n words) (live-ordered live) i b₂ op s j k e₂ in
-      (omega (arith, z .0), omega (arith, z .1), left-falls (nodesOf n words) (live-ordered live) i b₂ op s j k e₂)
+      let z = two-below (nodesOf n words) (live-ordered live) i (in-arena live i hi) op s j k e₂ in
+      (omega (arith, z .0), omega (arith, z .1), left-falls (nodesOf n words) (live-ordered live) i (in-arena live i hi) op s j k e₂)
 
   pub left-unfinished : (mid : List ℕ) → Ended words mid n (simplified (nodesOf n words) j) Step.NoRoom → Ended words mid n (simplified (nodesOf n words) i) Step.NoRoom
-  left-unfinished mid h = unfinished words mid n _ _ (left-grows (nodesOf n words) (live-ordered live) i b₂ op s j k e₂) h
+  left-unfinished mid h = unfinished words mid n _ _ (left-grows (nodesOf n words) (live-ordered live) i (in-arena live i hi) op s j k e₂) h
 
   module _ (mid : List ℕ) (a m : ℕ) (h : Ended words mid n (simplified (nodesOf n words) j) (Step.Done a m)) where
     pub right-lighter : weight (treeOf m mid k) < weight (treeOf n words i)
-    right-lighter = rw (h .ran .nodes-are) (right-falls (nodesOf n words) (live-ordered live) i b₂ op s j k e₂)
+    right-lighter = rw (h .ran .nodes-are) (right-falls (nodesOf n words) (live-ordered live) i (in-arena live i hi) op s j k e₂)
 
     m-is : length (simplified (nodesOf n words) j .arena) ≡ m
     m-is = did-length (h .ran)
 
     right-length : length (simplified (nodesOf m mid) k .arena) ≤ length (simplified (nodesOf n words) i .arena)
-    right-length = rw (h .ran .nodes-are) (right-grows (nodesOf n words) (live-ordered live) i b₂ op s j k e₂)
+    right-length = rw (h .ran .nodes-are) (right-grows (nodesOf n words) (live-ordered live) i (in-arena live i hi) op s j k e₂)
 
     pub right-unfinished : (after : List ℕ) → Ended mid after m (simplified (nodesOf m mid) k) Step.NoRoom → Ended words after n (simplified (nodesOf n words) i) Step.NoRoom
     right-unfinished after g =
         let f = after-run live i j a m hi (binary-children .0) h in
-        let l = left-grows (nodesOf n words) (live-ordered live) i b₂ op s j k e₂ in
+        let l = left-grows (nodesOf n words) (live-ordered live) i (in-arena live i hi) op s j k e₂ in
         let d = m-is in
         chained words mid after n a m (simplified (nodesOf n words) j) (simplified (nodesOf n words) i) Step.NoRoom (f .more) (omega arith) h
         (unfinished mid after m (simplified (nodesOf m mid) k) (simplified (nodesOf n words) i) right-length g)
@@ -300,7 +288,7 @@ module _ {words : List ℕ} {n : ℕ} (live : Live words n) (i : ℕ) (hi : i < 
     module _ (late : List ℕ) (c p : ℕ) (g : Ended mid late m (simplified (nodesOf m mid) k) (Step.Done c p)) where
       pub binary-lighter : weight (binary op s (treeOf p late a) (treeOf p late c)) ≤ weight (treeOf n words i)
       binary-lighter =
-          let q = two-lighter (nodesOf n words) (live-ordered live) i b₂ op s j k e₂ in
+          let q = two-lighter (nodesOf n words) (live-ordered live) i (in-arena live i hi) op s j k e₂ in
           let q′ = rw (← (h .ran .nodes-are), ← (h .ran .root-is)) at q in
           rw (← (g .ran .nodes-are), ← (g .ran .root-is)) at q′
 
@@ -309,10 +297,10 @@ module _ {words : List ℕ} {n : ℕ} (live : Live words n) (i : ℕ) (hi : i < 
       binary-ended after x t q r =
           let f = after-run live i j a m hi (binary-children .0) h in
           let f′ = after-run (f .live) i k c p (omega (arith, f .more)) (omega (arith, f .more, binary-children .1)) g in
-          let l = left-grows (nodesOf n words) (live-ordered live) i b₂ op s j k e₂ in
+          let l = left-grows (nodesOf n words) (live-ordered live) i (in-arena live i hi) op s j k e₂ in
           let l₂ = right-length in
           let d = m-is in
           let d′ = did-length (g .ran) in
           chained words mid after n a m (simplified (nodesOf n words) j) (simplified (nodesOf n words) i) x (f .more) (omega arith) h
           (chained mid late after m c p (simplified (nodesOf m mid) k) (simplified (nodesOf n words) i) x (f′ .more) (omega arith) g
-          (rw (two-eq (nodesOf n words) (live-ordered live) i b₂ op s j k e₂ (nodesOf m mid) (nodesOf p late) a c (h .ran .nodes-are) (h .ran .root-is) (g .ran .nodes-are) (g .ran .root-is), q) r))
+          (rw (two-eq (nodesOf n words) (live-ordered live) i (in-arena live i hi) op s j k e₂ (nodesOf m mid) (nodesOf p late) a c (h .ran .nodes-are) (h .ran .root-is) (g .ran .nodes-are) (g .ran .root-is), q) r))

@@ -7,7 +7,7 @@ use native.Mathlib.Omega.{arith}
 use lib.ListN.{length}
 use Rattle.acts.specs.Operated.{UnaryOver, BinaryOver}
 use Rattle.arena.specs.Live.{Live, New, treeOf}
-use Rattle.arena.specs.LiveLaws.{capacity-few, live-ordered}
+use Rattle.arena.specs.LiveLaws.{capacity-few, live-ordered, in-arena}
 use Rattle.format.specs.Limits.{maxNodes}
 use Rattle.format.specs.declared.Bin.{Bin}
 use Rattle.format.specs.declared.Node.{Node}
@@ -88,16 +88,13 @@ module _ {words : List ℕ} {count : ℕ} (live : Live words count) where
   narrow-size : (s : ℕ) → isSize s ≡ true → s < 2 ^ 8
   narrow-size s e = let z = size-bounds s e in omega (arith, z .1)
 
-  in-arena : (a : ℕ) → a < count → a < length (nodesOf count words)
-  in-arena a h = omega (arith, length-nodesOf count words)
-
   pub settles-binary : {op : Bin} {s a b : ℕ} → BinaryOver words count op s a b → (act : Act) → act ≡ binAct op s (treeOf count words a) (treeOf count words b) →
       Settles (nodesOf count words) act (Node.Binary op s a b) (Node.Binary op s b a) s a b
   settles-binary {op} {s} {a} {b} o act e =
       let arena = nodesOf count words in
       let narrow = narrow-size s (bin-isSize op s _ _ (o .sized-over)) in
-      let ha = in-arena a (o .left-below) in
-      let hb = in-arena b (o .right-below) in
+      let ha = in-arena live a (o .left-below) in
+      let hb = in-arena live b (o .right-below) in
       settles arena (live-ordered live) few-nodes s narrow a b ha hb act (Node.Binary op s a b) (Node.Binary op s b a)
       (new-binary arena (live-ordered live) few-nodes s narrow op a b ha hb) (new-binary arena (live-ordered live) few-nodes s narrow op b a hb ha)
       (rw e (bin-act-sized op s (treeOf count words a) (treeOf count words b) (live .sized a (o .left-below)) (live .sized b (o .right-below)) (o .left-topless) (o .right-topless) (o .sized-over)))
@@ -107,7 +104,7 @@ module _ {words : List ℕ} {count : ℕ} (live : Live words count) where
   settles-unary {op} {s} {a} o act e =
       let arena = nodesOf count words in
       let narrow = narrow-size s (un-isSize op s _ _ (o .sized-over)) in
-      let ha = in-arena a (o .below) in
+      let ha = in-arena live a (o .below) in
       settles arena (live-ordered live) few-nodes s narrow a a ha ha act (Node.Unary op s a) (Node.Unary op s a)
       (new-unary arena (live-ordered live) few-nodes s narrow op a ha) (new-unary arena (live-ordered live) few-nodes s narrow op a ha)
       (rw e (un-act-sized op s (treeOf count words a) (live .sized a (o .below)) (o .topless) (o .sized-over)))

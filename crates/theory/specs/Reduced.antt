@@ -13,6 +13,7 @@ use Rattle.rules.specs.declared.Act.{Act}
 use Rattle.rules.specs.declared.Near.{Near}
 use Rattle.format.specs.Truth.{or-left, or-right, or-swapped, or-cong}
 use Rattle.theory.specs.Falls.{nodes-positive, path-positive, sub-le, Within, Falls, falls-weaker, unary-falls, binary-falls}
+use Rattle.theory.specs.Keeps.{left-free}
 use Rattle.theory.specs.Normal.{Normal, normal-top, swap-keeps, unary-no-swap}
 use Rattle.theory.specs.TreeRun.{leftOf, nearTree, constTree, actedTree, unaryTree, binaryTree, overOne, overTwo, visitTree, reducedFor, reduced}
 use Rattle.tree.specs.Tree.{Tree, top, entry, const, bind, unary, binary, nodes, path, isTop, hasTop}
@@ -31,14 +32,6 @@ left-normal (bind s d) h = tt
 left-normal (unary op s a) h = h .0
 left-normal (binary op s a b) h = h .0
 
-pub left-topless : (t : Tree) → hasTop t ≡ false → hasTop (leftOf t) ≡ false
-left-topless top h = h
-left-topless (entry s sp o) h = h
-left-topless (const s v) h = h
-left-topless (bind s d) h = h
-left-topless (unary op s a) h = h
-left-topless (binary op s a b) h = or-left _ _ h
-
 module _ (a b : Tree) where
   pub near-normal : (w : Near) → Normal a → Normal b → Normal (nearTree w a b)
   near-normal Near.Left p q = p
@@ -49,8 +42,8 @@ module _ (a b : Tree) where
   pub near-topless : (w : Near) → hasTop a ≡ false → hasTop b ≡ false → hasTop (nearTree w a b) ≡ false
   near-topless Near.Left p q = p
   near-topless Near.Right p q = q
-  near-topless Near.LeftLeft p q = left-topless a p
-  near-topless Near.RightLeft p q = left-topless b q
+  near-topless Near.LeftLeft p q = left-free a p
+  near-topless Near.RightLeft p q = left-free b q
 
 -- what is simplified again comes out well, where it weighs less than W
 abbrev pub WellBelow : (Tree → Tree) → ℕ → Type 0
