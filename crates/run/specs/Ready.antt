@@ -171,33 +171,20 @@ module _ {words : List ℕ} {n : ℕ} (live : Live words n) (i : ℕ) (hi : i < 
             sized-over = λ q r. rw (left-stays, right-is) (over-reduced-two op s (treeOf n words j) (treeOf n words k) both-sized (both-free q r) .0);
           }
 
--- A LEAF IS ITSELF
+-- A LEAF IS ITSELF, and so is a tree that is simplified already
 
 module _ {words : List ℕ} {n : ℕ} (live : Live words n) (i : ℕ) (hi : i < n) where
   here : simplified (nodesOf n words) i ≡ out (nodesOf n words) i → Ended words words n (simplified (nodesOf n words) i) (Step.Done i n)
   here e = rw e (ended-here live i hi)
 
-  pub ended-top : nodeAt words i ≡ Node.Top → Ended words words n (simplified (nodesOf n words) i) (Step.Done i n)
-  ended-top e = here (leaf-top (nodesOf n words) (live-ordered live) i (in-arena live i hi) (at-nodesOf n words i hi ∙ e))
-
-  pub ended-entry : {s sp o : ℕ} → nodeAt words i ≡ Node.Entry s sp o → Ended words words n (simplified (nodesOf n words) i) (Step.Done i n)
-  ended-entry e = here (leaf-entry (nodesOf n words) (live-ordered live) i (in-arena live i hi) (at-nodesOf n words i hi ∙ e))
-
-  pub ended-const : {s v : ℕ} → nodeAt words i ≡ Node.Const s v → Ended words words n (simplified (nodesOf n words) i) (Step.Done i n)
-  ended-const e = here (leaf-const (nodesOf n words) (live-ordered live) i (in-arena live i hi) (at-nodesOf n words i hi ∙ e))
-
-  pub ended-bind : {s d : ℕ} → nodeAt words i ≡ Node.Bind s d → Ended words words n (simplified (nodesOf n words) i) (Step.Done i n)
-  ended-bind e = here (leaf-bind (nodesOf n words) (live-ordered live) i (in-arena live i hi) (at-nodesOf n words i hi ∙ e))
-
   pub ended-leaf : (node : Node) → nodeAt words i ≡ node → nodeIsLeaf node ≡ true → Ended words words n (simplified (nodesOf n words) i) (Step.Done i n)
-  ended-leaf Node.Top e l = ended-top e
-  ended-leaf (Node.Entry s sp o) e l = ended-entry e
-  ended-leaf (Node.Const s v) e l = ended-const e
-  ended-leaf (Node.Bind s d) e l = ended-bind e
+  ended-leaf Node.Top e l = here (leaf-top (nodesOf n words) (live-ordered live) i (in-arena live i hi) (at-nodesOf n words i hi ∙ e))
+  ended-leaf (Node.Entry s sp o) e l = here (leaf-entry (nodesOf n words) (live-ordered live) i (in-arena live i hi) (at-nodesOf n words i hi ∙ e))
+  ended-leaf (Node.Const s v) e l = here (leaf-const (nodesOf n words) (live-ordered live) i (in-arena live i hi) (at-nodesOf n words i hi ∙ e))
+  ended-leaf (Node.Bind s d) e l = here (leaf-bind (nodesOf n words) (live-ordered live) i (in-arena live i hi) (at-nodesOf n words i hi ∙ e))
   ended-leaf (Node.Unary op s j) e l = absurd (not-both l refl)
   ended-leaf (Node.Binary op s j k) e l = absurd (not-both l refl)
 
-  -- a tree that is simplified already gives way to itself, and appends nothing
   ended-normal : Normal (treeOf n words i) → Ended words words n (simplified (nodesOf n words) i) (Step.Done i n)
   ended-normal p = here (run-on-normal (nodesOf n words) (live-ordered live) (weight (treeOf n words i)) i (in-arena live i hi) p)
 

@@ -14,10 +14,11 @@ use Rattle.arena.proofs.push.Reads as push-reads
 use Rattle.arena.specs.Live.{treeOf}
 use Rattle.arena.specs.LiveLaws.{node-inside}
 use Rattle.format.specs.declared.Bin.{Bin}
+use Rattle.format.specs.declared.Node.{Node}
 use Rattle.format.specs.declared.Un.{Un}
 use Rattle.rules.specs.Run.{isSub, weight}
 use Rattle.settle.specs.Chains.{unary-child, unary-lighter, unary-unfinished, unary-ended, binary-children, right-lighter, binary-lighter, left-unfinished, right-unfinished, binary-ended}
-use Rattle.run.specs.Ready.{new-top, one-at, two-at, top-read, one-ready, right-child, two-ready, ended-top, ended-entry, ended-const, ended-bind, child-is-itself, one-child-ready, left-child-ready, right-child-ready}
+use Rattle.run.specs.Ready.{new-top, one-at, two-at, top-read, one-ready, right-child, two-ready, ended-leaf, child-is-itself, one-child-ready, left-child-ready, right-child-ready}
 use Rattle.settle.specs.Turns.{turn-add, turn-sub}
 use Rattle.settle.specs.Visits.{one-again-ended, one-again-falls, one-again-over-normal, two-again-ended, two-again-falls, two-again-over-normal}
 use Rattle.tree.specs.Arena.{nodesOf}
@@ -425,25 +426,25 @@ visit-same-length : (t : ℕ) → visit-lts.Need-same-length (visit-claims t) (v
 visit-same-length t c = search needs
 
 visit-returns : (t : ℕ) → visit-lts.Need-returns (visit-claims t) (visit-at t) visit.Post
-visit-returns t c = ended-top ((c .before .before .before .before .before .pre) .1 .0) ((c .before .before .before .before .before .args) .i) ((c .before .before .before .before .before .pre) .1 .1 .0) (sym ((c .before .before .node-at) .ensures) ∙ (c .enum-told) .given .1)
+visit-returns t c = ended-leaf ((c .before .before .before .before .before .pre) .1 .0) ((c .before .before .before .before .before .args) .i) ((c .before .before .before .before .before .pre) .1 .1 .0) Node.Top (sym ((c .before .before .node-at) .ensures) ∙ (c .enum-told) .given .1) refl
 
 visit-same-length-2 : (t : ℕ) → visit-lts.Need-same-length-2 (visit-claims t) (visit-at t) visit.Post
 visit-same-length-2 t c = search needs
 
 visit-returns-2 : (t : ℕ) → visit-lts.Need-returns-2 (visit-claims t) (visit-at t) visit.Post
-visit-returns-2 t c = ended-entry ((c .before .before .before .before .before .pre) .1 .0) ((c .before .before .before .before .before .args) .i) ((c .before .before .before .before .before .pre) .1 .1 .0) (sym ((c .before .before .node-at) .ensures) ∙ (c .enum-told2) .given .1)
+visit-returns-2 t c = ended-leaf ((c .before .before .before .before .before .pre) .1 .0) ((c .before .before .before .before .before .args) .i) ((c .before .before .before .before .before .pre) .1 .1 .0) (Node.Entry _ _ _) (sym ((c .before .before .node-at) .ensures) ∙ (c .enum-told2) .given .1) refl
 
 visit-same-length-3 : (t : ℕ) → visit-lts.Need-same-length-3 (visit-claims t) (visit-at t) visit.Post
 visit-same-length-3 t c = search needs
 
 visit-returns-3 : (t : ℕ) → visit-lts.Need-returns-3 (visit-claims t) (visit-at t) visit.Post
-visit-returns-3 t c = ended-const ((c .before .before .before .before .before .pre) .1 .0) ((c .before .before .before .before .before .args) .i) ((c .before .before .before .before .before .pre) .1 .1 .0) (sym ((c .before .before .node-at) .ensures) ∙ (c .enum-told3) .given .1)
+visit-returns-3 t c = ended-leaf ((c .before .before .before .before .before .pre) .1 .0) ((c .before .before .before .before .before .args) .i) ((c .before .before .before .before .before .pre) .1 .1 .0) (Node.Const _ _) (sym ((c .before .before .node-at) .ensures) ∙ (c .enum-told3) .given .1) refl
 
 visit-same-length-4 : (t : ℕ) → visit-lts.Need-same-length-4 (visit-claims t) (visit-at t) visit.Post
 visit-same-length-4 t c = search needs
 
 visit-returns-4 : (t : ℕ) → visit-lts.Need-returns-4 (visit-claims t) (visit-at t) visit.Post
-visit-returns-4 t c = ended-bind ((c .before .before .before .before .before .pre) .1 .0) ((c .before .before .before .before .before .args) .i) ((c .before .before .before .before .before .pre) .1 .1 .0) (sym ((c .before .before .node-at) .ensures) ∙ (c .enum-told4) .given .1)
+visit-returns-4 t c = ended-leaf ((c .before .before .before .before .before .pre) .1 .0) ((c .before .before .before .before .before .args) .i) ((c .before .before .before .before .before .pre) .1 .1 .0) (Node.Bind _ _) (sym ((c .before .before .node-at) .ensures) ∙ (c .enum-told4) .given .1) refl
 
 visit-same-length-5 : (t : ℕ) → visit-lts.Need-same-length-5 (visit-claims t) (visit-at t) visit.Post
 visit-same-length-5 t c = search needs
