@@ -9,8 +9,8 @@ use Rattle.arena.specs.Live.{treeOf}
 use Rattle.arena.specs.LiveLaws.{live-ordered, in-arena, tree-of-node, below-at}
 use Rattle.arith.specs.Operands.{Extension}
 use Rattle.eval.specs.Answers.{foundOf, inputAnswer, answered, overOne, overTwo, answerAt, OperandFits, OperandsFit, Evaluable}
-use Rattle.eval.specs.MissingLaws.{missing-eq}
-use Rattle.eval.specs.RowLaws.{assigned-fitting}
+use Rattle.theory.specs.MissingLaws.{missing-eq}
+use Rattle.theory.specs.RowLaws.{assigned-fitting}
 use Rattle.values.specs.SizedOperands.{unary-operand, binary-operands}
 use Rattle.eval.specs.declared.rows.Found.{Found}
 use Rattle.eval.specs.declared.walk.Answer.{Answer}

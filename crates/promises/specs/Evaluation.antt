@@ -5,7 +5,7 @@ use mathlib.Core.Option.{none}
 use mathlib.Core.Path.{_≡_}
 use Prim.Native.Nat.{ℕ, _*_, _^_, _<_}
 use Rattle.arena.specs.Live.{treeOf}
-use Rattle.eval.specs.MissingLaws.{HasRow, nothing-missing}
+use Rattle.theory.specs.MissingLaws.{HasRow, nothing-missing}
 use Rattle.formed.specs.LiveOfChecked.{live-of-checked}
 use Rattle.promises.specs.Words.{Words64}
 use Rattle.theory.specs.Inputs.{EveryInput}

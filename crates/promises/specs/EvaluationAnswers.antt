@@ -6,8 +6,8 @@ use mathlib.Core.Option.{Option, some, none}
 use mathlib.Core.Path.{_≡_, refl, ap, _∙_, subst}
 use Prim.Native.Nat.{ℕ, _*_, _^_, _<_}
 use Rattle.arena.specs.Live.{treeOf}
-use Rattle.eval.specs.MissingLaws.{nothing-missing}
-use Rattle.eval.specs.RowLaws.{assigned-fitting}
+use Rattle.theory.specs.MissingLaws.{nothing-missing}
+use Rattle.theory.specs.RowLaws.{assigned-fitting}
 use Rattle.formed.specs.Lines.{Passing, Line, checked-exactly}
 use Rattle.promises.specs.Evaluation.{Assigns, evaluation-total, value-fits-size}
 use Rattle.promises.specs.Verdicts.{on-verdict}

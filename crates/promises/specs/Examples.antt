@@ -9,8 +9,8 @@ use borrow.Author.Tests.{ltb-true}
 use lib.Dec.{ltb, lit≤}
 use lib.ListN.{length, getD, List·getD-append, List·getD-eq-default}
 use Rattle.arena.specs.Live.{treeOf}
-use Rattle.eval.specs.MissingLaws.{nothing-missing}
-use Rattle.eval.specs.RowLaws.{assigned-fitting}
+use Rattle.theory.specs.MissingLaws.{nothing-missing}
+use Rattle.theory.specs.RowLaws.{assigned-fitting}
 use Rattle.format.specs.Kinds.{shapeOf, rowOf}
 use Rattle.format.specs.Nodes.{nodeOf}
 use Rattle.format.specs.Table.{every, at-line}

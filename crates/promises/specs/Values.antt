@@ -4,8 +4,8 @@ use mathlib.Core.List.{List}
 use mathlib.Core.Path.{_≡_, ap, sym, _∙_}
 use Prim.Native.Nat.{ℕ}
 use Rattle.arena.specs.Live.{treeOf}
-use Rattle.eval.specs.MissingLaws.{HasRow}
-use Rattle.eval.specs.RowLaws.{assigned-fitting}
+use Rattle.theory.specs.MissingLaws.{HasRow}
+use Rattle.theory.specs.RowLaws.{assigned-fitting}
 use Rattle.formed.specs.Lines.{checked-exactly}
 use Rattle.promises.specs.Check.{passes-after}
 use Rattle.promises.specs.EvaluationAnswers.{Valued, evaluated-exactly}

@@ -13,3 +13,5 @@ pub mod UnValues
 pub mod Values
 pub mod Visits
 pub mod SizedRun
+pub mod RowLaws
+pub mod MissingLaws

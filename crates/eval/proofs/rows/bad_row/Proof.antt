@@ -5,7 +5,7 @@ use borrow.Author.Tests.{eq-eqb, ne-eqb, not-true, not-false}
 use native.Mathlib.Nat.{sub-zero}
 use native.Mathlib.Omega.{arith}
 use Rattle.tree.specs.Rows.{badRowFrom, badRow}
-use Rattle.eval.specs.RowLaws.{bad-step, bad-end}
+use Rattle.theory.specs.RowLaws.{bad-step, bad-end}
 use Rattle.eval.proofs.rows.bad_row.Statement.{statement}
 use Rattle.eval.proofs.rows.bad_row.Tie as tie
 

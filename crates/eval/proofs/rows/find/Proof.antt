@@ -4,7 +4,7 @@ use Prim.Native.Nat.{_≤_, _-_, zero-le}
 use native.Mathlib.Nat.{sub-zero}
 use native.Mathlib.Omega.{arith}
 use Rattle.tree.specs.Rows.{foundFrom, found}
-use Rattle.eval.specs.RowLaws.{found-step, found-end}
+use Rattle.theory.specs.RowLaws.{found-step, found-end}
 use Rattle.eval.proofs.rows.find.Statement.{statement}
 use Rattle.eval.proofs.rows.find.Tie as tie
 
