@@ -13,7 +13,6 @@ use crate::rows::Found;
 use format::Bin;
 use format::Node;
 use format::Un;
-use words::NODE_WORDS;
 
 // A value, or the index of the first input without a row.
 pub enum Answer {
@@ -55,7 +54,11 @@ fn input_at(words: &[u64], rows: &[u64], i: usize) -> Answer
     requires { ⌜ nodeWords * i + 1 < length (now words) ⌝ }
     ensures { λ r. ⌜ r ≡ inputAnswer i (found (now (rows .entry)) (headerAt (now (words .entry)) i) (payloadAt (now (words .entry)) i)) ⌝ }
 {
-    match rows::find(rows, words[NODE_WORDS * i], words[NODE_WORDS * i + 1]) {
+    match rows::find(
+        rows,
+        arena::header_at(words, i),
+        arena::payload_at(words, i),
+    ) {
         Found::At(value) => Answer::Value(value),
         Found::Nothing => Answer::Missing(i),
     }

@@ -14,7 +14,6 @@ pub mod sizes;
 use format::Row;
 use tree::Verdict;
 use words::KIND_COUNT;
-use words::NODE_WORDS;
 
 // The verdict on a node of a known kind, by the kind's row: its form before its sizes, whose rule leans on the form.
 fn judge(words: &[u64], row: Row, i: usize) -> Verdict
@@ -23,8 +22,8 @@ fn judge(words: &[u64], row: Row, i: usize) -> Verdict
     requires { ⌜ row ≡ rowOf (kindOf (headerAt (now words) i)) ⌝ }
     ensures { λ r. ⌜ r ≡ judged (now (words .entry)) i ⌝ }
 {
-    let word = words[NODE_WORDS * i];
-    let payload = words[NODE_WORDS * i + 1];
+    let word = arena::header_at(words, i);
+    let payload = arena::payload_at(words, i);
     if !fields::row_fits(row, word, payload, i) {
         return Verdict::IllFormed(i);
     }
@@ -46,7 +45,7 @@ fn scan(words: &[u64], count: usize) -> Verdict
         if count <= i {
             break Verdict::Passed;
         }
-        let kind = words::fields::kind_of(words[NODE_WORDS * i]);
+        let kind = words::fields::kind_of(arena::header_at(words, i));
         if KIND_COUNT <= kind {
             break Verdict::IllFormed(i);
         }

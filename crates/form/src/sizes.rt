@@ -10,7 +10,6 @@ ghost use Rattle.tree.specs.Form.{isSize, sameSize, noWider, oneSize, sized as 
 use format::ChildSize;
 use format::Row;
 use format::Sizing;
-use words::NODE_WORDS;
 
 // Top's number.
 const KIND_TOP: usize = 0;
@@ -82,7 +81,7 @@ fn child_size(words: &[u64], used: bool, child: usize) -> ChildSize
     if !used {
         return ChildSize::Absent;
     }
-    let word = words[NODE_WORDS * child];
+    let word = arena::header_at(words, child);
     if words::fields::kind_of(word) == KIND_TOP {
         return ChildSize::Absent;
     }

@@ -8,26 +8,11 @@ use Rattle.form.specs.Judged.{judged-by-row}
 use Rattle.form.proofs.judge.Statement.{statement}
 use Rattle.form.proofs.judge.Tie as tie
 
-mul-word : tie.Need-mul-word
-mul-word c = search needs
+header-at-requires : tie.Need-header-at-requires
+header-at-requires c κs = search needs
 
-mul-word-2 : tie.Need-mul-word-2
-mul-word-2 c = search needs
-
-shared-slice-read-word : tie.Need-shared-slice-read-word
-shared-slice-read-word c = search needs
-
-mul-payload : tie.Need-mul-payload
-mul-payload c = search needs
-
-add-payload : tie.Need-add-payload
-add-payload c = search needs
-
-mul-payload-2 : tie.Need-mul-payload-2
-mul-payload-2 c = search needs
-
-shared-slice-read-payload : tie.Need-shared-slice-read-payload
-shared-slice-read-payload c = search needs
+payload-at-requires : tie.Need-payload-at-requires
+payload-at-requires c κs = search needs
 
 row-fits-requires : tie.Need-row-fits-requires
 row-fits-requires c κs = search needs
@@ -35,8 +20,8 @@ row-fits-requires c κs = search needs
 returns : tie.Need-returns
 returns c =
     let start = c .before .before .before .before .before in
-    let form = c .before .row-fits in
-    let unfit = sym (form .ensures) ∙ not-true (form .result) (c .if1 .taken) in
+    let form = rw (c .before .before .before .header-at .ensures, c .before .before .payload-at .ensures) at (c .before .row-fits .ensures) in
+    let unfit = sym form ∙ not-true (c .before .row-fits .result) (c .if1 .taken) in
     rw (judged-by-row _ _ _ (start .pre .1 .0) (start .pre .1 .1), unfit)
 
 row-sized-requires : tie.Need-row-sized-requires
@@ -44,37 +29,39 @@ row-sized-requires c κs =
     let start = c .before .before .before .before .before in
     let words = start .args .words .now in
     let i = start .args .i in
-    let form = c .before .row-fits in
-    let fit = sym (form .ensures) ∙ not-false (form .result) (c .if1 .left) in (
-      left-inside words (start .args .row) (headerAt words i) (payloadAt words i) i fit (start .pre .0),
-      right-inside words (start .args .row) (headerAt words i) (payloadAt words i) i fit (start .pre .0),
+    let header = c .before .before .before .header-at .ensures in
+    let form = rw (header, c .before .before .payload-at .ensures) at (c .before .row-fits .ensures) in
+    let fit = sym form ∙ not-false (c .before .row-fits .result) (c .if1 .left) in (
+      rw header (left-inside words (start .args .row) (headerAt words i) (payloadAt words i) i fit (start .pre .0)),
+      rw header (right-inside words (start .args .row) (headerAt words i) (payloadAt words i) i fit (start .pre .0)),
     )
 
 returns-2 : tie.Need-returns-2
 returns-2 c =
     let start = c .before .before .before .before .before .before .before in
-    let form = c .before .before .before .row-fits in
-    let fit = sym (form .ensures) ∙ not-false (form .result) (c .before .before .if1 .left) in
-    rw (judged-by-row _ _ _ (start .pre .1 .0) (start .pre .1 .1), fit, sym (c .before .row-sized .ensures) ∙ c .if2 .taken)
+    let header = c .before .before .before .before .before .header-at .ensures in
+    let payload = c .before .before .before .before .payload-at .ensures in
+    let form = rw (header, payload) at (c .before .before .before .row-fits .ensures) in
+    let fit = sym form ∙ not-false (c .before .before .before .row-fits .result) (c .before .before .if1 .left) in
+    let sizes = rw (header, payload) at (c .before .row-sized .ensures) in
+    rw (judged-by-row _ _ _ (start .pre .1 .0) (start .pre .1 .1), fit, sym sizes ∙ c .if2 .taken)
 
 returns-3 : tie.Need-returns-3
 returns-3 c =
     let start = c .before .before .before .before .before .before .before in
-    let form = c .before .before .before .row-fits in
-    let fit = sym (form .ensures) ∙ not-false (form .result) (c .before .before .if1 .left) in
-    rw (judged-by-row _ _ _ (start .pre .1 .0) (start .pre .1 .1), fit, sym (c .before .row-sized .ensures) ∙ c .if2 .left)
+    let header = c .before .before .before .before .before .header-at .ensures in
+    let payload = c .before .before .before .before .payload-at .ensures in
+    let form = rw (header, payload) at (c .before .before .before .row-fits .ensures) in
+    let fit = sym form ∙ not-false (c .before .before .before .row-fits .result) (c .before .before .if1 .left) in
+    let sizes = rw (header, payload) at (c .before .row-sized .ensures) in
+    rw (judged-by-row _ _ _ (start .pre .1 .0) (start .pre .1 .1), fit, sym sizes ∙ c .if2 .left)
 
 pub judge-spec : {M : Type 1} → statement M
 judge-spec =
     tie.close
     (tie.spec
-    mul-word
-    mul-word-2
-    shared-slice-read-word
-    mul-payload
-    add-payload
-    mul-payload-2
-    shared-slice-read-payload
+    header-at-requires
+    payload-at-requires
     row-fits-requires
     returns
     row-sized-requires

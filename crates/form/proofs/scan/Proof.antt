@@ -1,9 +1,10 @@
 -- The invariant: the scan from the node that is reached gives the verdict on all. Each node passed brings the count nearer. Assumes nothing.
 use borrow.Author.Needs.{needs}
 use Prim.Native.Nat.{_-_, _≤_, zero-le}
-use mathlib.Core.Path.{_≡_, sym, _∙_}
+use mathlib.Core.Path.{_≡_, ap, sym, _∙_}
 use native.Mathlib.Nat.{sub-zero}
 use native.Mathlib.Omega.{arith}
+use Rattle.format.specs.Header.{kindOf}
 use Rattle.format.specs.KindRules.{row-at}
 use Rattle.formed.specs.Scan.{scan-ends, scan-goes-on}
 use Rattle.form.specs.Judged.{unknown-judged}
@@ -24,14 +25,8 @@ table-requires c κs = search needs
 loop-holds : tie.Need-loop-holds Inv-loop μ-loop
 loop-holds c = (zero-le, rw sub-zero)
 
-mul-kind-of : tie.Need-mul-kind-of Inv-loop μ-loop
-mul-kind-of c = omega arith
-
-mul-kind-of-2 : tie.Need-mul-kind-of-2 Inv-loop μ-loop
-mul-kind-of-2 c = omega arith
-
-shared-slice-read-kind-of : tie.Need-shared-slice-read-kind-of Inv-loop μ-loop
-shared-slice-read-kind-of c = omega arith
+header-at-requires : tie.Need-header-at-requires Inv-loop μ-loop
+header-at-requires c κs = omega arith
 
 kind-of-requires : tie.Need-kind-of-requires Inv-loop μ-loop
 kind-of-requires c κs = search needs
@@ -44,7 +39,7 @@ array-copy-out-judge c = omega arith
 
 judge-requires : tie.Need-judge-requires Inv-loop μ-loop
 judge-requires c κs =
-    let kind = c .before .before .kind-of .ensures in
+    let kind = c .before .before .kind-of .ensures ∙ ap kindOf (c .before .before .before .header-at .ensures) in
     let table = c .before .before .before .before .before .before .table .ensures in
     (omega arith, (rw kind at (c .before .if2 .left), rw (table, kind) (row-at _)))
 
@@ -70,7 +65,8 @@ returns-2 : tie.Need-returns-2 Inv-loop μ-loop
 returns-2 c =
     let at = c .before .before .before .before .loop in
     let words = c .before .before .before .before .before .before .before .args .words .now in
-    let unknown = unknown-judged words (at .i) (rw (c .before .kind-of .ensures) at (c .if2 .taken)) in
+    let kind = c .before .kind-of .ensures ∙ ap kindOf (c .before .before .header-at .ensures) in
+    let unknown = unknown-judged words (at .i) (rw kind at (c .if2 .taken)) in
     sym (at .inv .1 ∙ scan-goes-on _ _ (at .i) (c .before .before .before .if1 .left) ∙ rw unknown)
 
 returns-3 : tie.Need-returns-3 Inv-loop μ-loop
@@ -87,9 +83,7 @@ scan-spec =
     μ-loop
     table-requires
     loop-holds
-    mul-kind-of
-    mul-kind-of-2
-    shared-slice-read-kind-of
+    header-at-requires
     kind-of-requires
     mul-judge
     array-copy-out-judge
