@@ -10,8 +10,8 @@ use lib.Dec.{eqb, ltb}
 use lib.ListN.{length}
 use Rattle.arena.specs.Live.{Live, Good, treeOf, nodeSize, nodeIsTop, nodeIsConst, nodeIsLeaf}
 use Rattle.format.specs.Header.{kindOf}
-use Rattle.format.specs.KindRules.{numberOf, isConst, isLeaf, const-by-kind, leaf-by-kind}
-use Rattle.format.specs.Kinds.{kindCount, leafKinds, shapeOf}
+use Rattle.format.specs.KindRules.{numberOf, leafKinds, isConst, isLeaf, const-by-kind, leaf-by-kind}
+use Rattle.format.specs.Kinds.{kindCount, shapeOf}
 use Rattle.format.specs.Limits.{nodeWords, maxNodes, capacity, headerAt, payloadAt}
 use Rattle.format.specs.Nodes.{nodeOf, shaped, headerOf}
 use Rattle.format.specs.NodesOfWords.{node-of-unknown}

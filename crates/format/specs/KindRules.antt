@@ -1,5 +1,6 @@
 -- What the table of kinds says of a shape: its number, its children and the fields that it uses. Assumes nothing.
 use mathlib.Core.Path.{_≡_, refl, ap, _∙_, sym}
+use mathlib.Core.List.{List, map}
 use mathlib.Core.Bool.{Bool, true, false, _&&_, Bool·beq}
 use Prim.Native.Nat.{ℕ, _<_, _≤_}
 use native.Mathlib.Decide.{decLt}
@@ -7,7 +8,7 @@ use native.Mathlib.Omega.{arith}
 use lib.Dec.{eqb, ltb, lit<}
 use lib.ListN.{length, getD, List·getD-eq-default, List·getD-map}
 use borrow.Author.Tests.{eqb-true, ne-eqb}
-use Rattle.format.specs.Kinds.{Kind, kinds, rows, kindCount, leafKinds, unknownKind, lineOf, shapeOf, rowOf, unNumber, binNumber}
+use Rattle.format.specs.Kinds.{Kind, kinds, kindCount, unknownKind, lineOf, shapeOf, rowOf, unNumber, binNumber}
 use Rattle.format.specs.Table.{at-line}
 use Rattle.format.specs.Truth.{and-left, and-right}
 use Rattle.format.specs.declared.Bin.{Bin}
@@ -129,6 +130,10 @@ by-test kind line t =
 pub kinds-counted : length kinds ≡ kindCount
 kinds-counted = refl
 
+-- the table without the shapes
+abbrev pub rows : List Row
+rows = map (λ (line : Kind). line .row) kinds
+
 pub row-at : (kind : ℕ) → getD rows kind (unknownKind .row) ≡ rowOf kind
 unfolding rowOf
 row-at kind = List·getD-map (λ (line : Kind). line .row) kinds kind unknownKind
@@ -143,7 +148,10 @@ pub shape-of-unknown : (kind : ℕ) → kindCount ≤ kind → shapeOf kind ≡ 
 unfolding shapeOf
 shape-of-unknown kind h = ap (λ (line : Kind). line .shape) (List·getD-eq-default kinds unknownKind h)
 
--- a known kind is a leaf's if it is one of the first
+-- how many kinds have no children: a known kind is a leaf's if it is one of the first
+abbrev pub leafKinds : ℕ
+leafKinds = 4
+
 pub leaf-by-kind : (kind : ℕ) → kind < kindCount → isLeaf (shapeOf kind) ≡ ltb kind leafKinds
 unfolding shapeOf
 leaf-by-kind kind h =

@@ -1,6 +1,6 @@
 -- 01's table of kinds. Assumes nothing.
 use mathlib.Core.Bool.{Bool, true, false}
-use mathlib.Core.List.{List, [], _∷_, map}
+use mathlib.Core.List.{List, [], _∷_}
 use Prim.Native.Nat.{ℕ}
 use lib.ListN.{getD}
 use Rattle.format.specs.declared.Bin.{Bin}
@@ -48,16 +48,8 @@ kinds =
     ∷ one Un.Int2Comp Sizing.Same
     ∷ []
 
--- the table without the shapes
-abbrev pub rows : List Row
-rows = map (λ (line : Kind). line .row) kinds
-
 abbrev pub kindCount : ℕ
 kindCount = 17
-
--- how many kinds have no children: the first ones
-abbrev pub leafKinds : ℕ
-leafKinds = 4
 
 -- the line of a number that is no kind's: Top's
 abbrev pub unknownKind : Kind

@@ -35,6 +35,7 @@ overOf (Op.Two op) s a b = Node.Binary op s a b
 abbrev pub settled : Act → (kept : Bool) → (i : ℕ) → Op → ℕ → List Node → (a b : ℕ) → Out
 settled act kept i op s arena a b = carried act (keptAs kept i (overOf op s a b) arena) (append (overOf op s b a) arena) s arena a b
 
+-- each node that the action appends is new
 abbrev pub Settles : List Node → Act → (own swapped : Node) → (s a b : ℕ) → Type 0
 Settles arena Act.Keep own swapped s a b = New arena own
 Settles arena Act.Swap own swapped s a b = New arena swapped

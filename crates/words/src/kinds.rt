@@ -1,7 +1,8 @@
 // The kinds by number: the one table that drives the check of form and sizes, and the shapes that nodes are read by.
 ghost use mathlib.Core.Path.{_≡_};
 ghost use Prim.Native.Nat.{_<_, _≤_};
-ghost use Rattle.format.specs.Kinds.{rows, shapeOf, unNumber, binNumber};
+ghost use Rattle.format.specs.KindRules.{rows};
+ghost use Rattle.format.specs.Kinds.{shapeOf, unNumber, binNumber};
 use crate::KIND_COUNT;
 use format::Bin;
 use format::Row;
