@@ -1,4 +1,6 @@
 // What the rules decide, in code, a file a kind: it reads, and writes nothing.
+#![tactic(auto)]
+
 mod add;
 mod beside;
 pub mod decide;

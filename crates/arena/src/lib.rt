@@ -1,4 +1,6 @@
 // Reading the nodes of a lent slice, and appending to them.
+#![tactic(auto)]
+
 ghost use Rattle.std.specs.Prelude.{◌≡◌, ◌+◌, ◌*◌, ◌<◌, length};
 ghost use Rattle.format.specs.Limits.{node_words, capacity as capacityOf, header_at, payload_at};
 ghost use Rattle.tree.specs.Arena.{node_at, nodes_of};

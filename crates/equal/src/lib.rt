@@ -1,4 +1,6 @@
 // Whether two trees of an arena are equal, wherever they lie.
+#![tactic(auto)]
+
 ghost use Rattle.std.specs.Prelude.{◌≡◌, ◌+◌, ◌*◌, ◌<◌, length};
 ghost use Rattle.format.specs.Limits.{node_words};
 ghost use Rattle.tree.specs.Tree.{same as sameTree};

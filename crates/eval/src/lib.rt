@@ -1,4 +1,6 @@
 // Evaluation, from the check on: a bad row, a Top that is reached, an input without a row, or the value. It writes nothing.
+#![tactic(auto)]
+
 ghost use Rattle.std.specs.Prelude.{◌≡◌, ◌<◌};
 ghost use Rattle.arena.specs.Live.{Live};
 ghost use Rattle.eval.specs.Answers.{evaluated_live};

@@ -1,4 +1,6 @@
 // The program's file, and the answer to it: from the bytes of standard input to the four numbers that are printed.
+#![tactic(auto)]
+
 pub mod bytes;
 pub mod line;
 

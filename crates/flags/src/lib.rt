@@ -1,4 +1,6 @@
 // The flags of sums and differences: 1 or 0.
+#![tactic(auto)]
+
 ghost use Rattle.std.specs.Prelude.{◌≡◌, ◌*◌};
 ghost use Rattle.manual.specs.Operations.{int_carry, int_scarry, int_sborrow};
 ghost use Rattle.arith.specs.Operands.{Operands};

@@ -1,4 +1,6 @@
 // The check of an arena, exact over any words, count and root: answers 0 to 6.
+#![tactic(auto)]
+
 ghost use Rattle.std.specs.Prelude.{◌≡◌, ◌+◌, ◌*◌, ◌≤◌, ◌<◌, length};
 ghost use Rattle.format.specs.Header.{kind_of};
 ghost use Rattle.format.specs.Kinds.{row_of, kind_count};

@@ -1,4 +1,5 @@
 // What a node's two words stand for: the types that the definitions in specs/ and the code share.
+#![tactic(auto)]
 
 // The operators of one child.
 #[derive(Drop)]

@@ -1,4 +1,6 @@
 // Runs the program's answer on every recorded file, and prints a line for each.
+#![tactic(auto)]
+
 ghost use Rattle.std.specs.Prelude.{◌≡◌};
 ghost use Rattle.file.specs.File.{program_reply};
 

@@ -1,4 +1,6 @@
 // What the rules see and decide: the types that the definitions in specs/ and the code share.
+#![tactic(auto)]
+
 use format::{Bin, Un};
 use tree::Verdict;
 

@@ -1,4 +1,6 @@
 // Simplifies the file on standard input, and prints number, place, root and count.
+#![tactic(auto)]
+
 ghost use Rattle.std.specs.Prelude.{◌≡◌};
 ghost use Rattle.file.specs.File.{program_reply};
 

@@ -1,4 +1,6 @@
 // The rules on a node whose children are simplified: what they decide, carried out by one writer, short of simplifying again.
+#![tactic(auto)]
+
 pub mod rule;
 pub mod turn;
 mod writer;

@@ -1,4 +1,6 @@
 // What looks at the sign. An i64 stays inside this crate.
+#![tactic(auto)]
+
 ghost use Rattle.std.specs.Prelude.{◌≡◌, ◌*◌};
 ghost use Rattle.manual.specs.Operations.{int_sub, int_sright, int_sext, signed, negative64, amount64};
 ghost use Rattle.arith.specs.Operands.{Operand, Extension};

@@ -1,1 +1,2 @@
 // What follows from the rules and the run: see specs/. It has no code.
+#![tactic(auto)]

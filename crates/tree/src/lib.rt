@@ -1,4 +1,5 @@
 // The answers of the check and of evaluation, which the definitions in specs/ give for any words.
+#![tactic(auto)]
 
 // Of the check: answers 0 to 6.
 #[derive(Drop)]

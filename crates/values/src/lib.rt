@@ -1,5 +1,7 @@
 // The value of an operator on numbers: what folding two constants makes, and what evaluation computes. And the constant that
 // holds a number.
+#![tactic(auto)]
+
 ghost use Rattle.std.specs.Prelude.{◌≡◌};
 ghost use Rattle.arith.specs.Operands.{Extension, Size};
 ghost use Rattle.tree.specs.Meaning.{un_value, bin_value};

@@ -1,4 +1,6 @@
 // A node's two words in code: the fields of its header, the table of kinds, and the node that the words stand for.
+#![tactic(auto)]
+
 pub mod fields;
 pub mod kinds;
 pub mod nodes;
