@@ -18,7 +18,7 @@ const KIND_CONST: usize = 2;
 const LEAF_KINDS: usize = 4;
 
 // How a run that appends ends: at an index, with a new count, or without room for a node.
-#[derive(Drop)]
+#[derive(Clone, Copy)]
 pub enum Step {
     Done(usize, usize),
     NoRoom,

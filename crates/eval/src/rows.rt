@@ -10,14 +10,14 @@ use words::fields;
 const ROW_WORDS: usize = 3;
 
 // Where the first bad row stands.
-#[derive(Drop)]
+#[derive(Clone, Copy)]
 pub enum Place {
     At(usize),
     Nowhere,
 }
 
 // The value in the first row of an input.
-#[derive(Drop)]
+#[derive(Clone, Copy)]
 pub enum Found {
     At(u64),
     Nothing,

@@ -12,7 +12,7 @@ use crate::rows::Found;
 use format::{Bin, Node, Un};
 
 // A value, or the index of the first input without a row.
-#[derive(Drop)]
+#[derive(Clone, Copy)]
 pub enum Answer {
     Value(u64),
     Missing(usize),

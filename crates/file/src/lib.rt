@@ -24,7 +24,7 @@ const ROOT_BOUND: u64 = 0x1_0000_0000;
 const BAD_FILE: u64 = 11;
 
 // What a file's head says: the count and the root of its nodes, or that the file is bad.
-#[derive(Drop)]
+#[derive(Clone, Copy)]
 pub enum Head {
     Bad,
     Nodes(usize, usize),

@@ -13,7 +13,7 @@ use tree::Verdict;
 use words::{MAX_PATH, MAX_UNFOLDED};
 
 // The children of a node: all that the limits look at.
-#[derive(Drop)]
+#[derive(Clone, Copy)]
 pub enum Children {
     None,
     One(usize),

@@ -2,14 +2,14 @@
 #![tactic(auto)]
 
 // The operators of one child.
-#[derive(Drop)]
+#[derive(Clone, Copy)]
 pub enum Un {
     SignExtend,
     Int2Comp,
 }
 
 // The operators of two children.
-#[derive(Drop)]
+#[derive(Clone, Copy)]
 pub enum Bin {
     Add,
     Sub,
@@ -25,7 +25,7 @@ pub enum Bin {
 }
 
 // What a kind is, apart from its number.
-#[derive(Drop)]
+#[derive(Clone, Copy)]
 pub enum Shape {
     Top,
     Entry,
@@ -36,7 +36,7 @@ pub enum Shape {
 }
 
 // The rule for a node's size and its children's.
-#[derive(Drop)]
+#[derive(Clone, Copy)]
 pub enum Sizing {
     Unsized,
     Input,
@@ -48,7 +48,7 @@ pub enum Sizing {
 }
 
 // A kind's line of the table: how many children it has, whether it uses the space and the payload, and its rule of sizes.
-#[derive(Drop)]
+#[derive(Clone, Copy)]
 pub struct Row {
     pub arity: u8,
     pub space: bool,
@@ -57,14 +57,14 @@ pub struct Row {
 }
 
 // The size that a node's rule sees of a child. A child that is Top, or that the kind does not have, shows none.
-#[derive(Drop)]
+#[derive(Clone, Copy)]
 pub enum ChildSize {
     Absent,
     Bytes(u64),
 }
 
 // A node with its fields: sizes in bytes, and children as indices.
-#[derive(Drop)]
+#[derive(Clone, Copy)]
 pub enum Node {
     Top,
     Entry(u64, u64, u64),

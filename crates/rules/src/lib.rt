@@ -5,7 +5,7 @@ use format::{Bin, Un};
 use tree::Verdict;
 
 // What a rule sees of a simplified child: a constant, e + #a, e - #a, -e, e sign-extended to some bytes, or anything else.
-#[derive(Drop)]
+#[derive(Clone, Copy)]
 pub enum View {
     Constant(u64),
     Plus(u64),
@@ -16,7 +16,7 @@ pub enum View {
 }
 
 // Which of two children are constants.
-#[derive(Drop)]
+#[derive(Clone, Copy)]
 pub enum Constants {
     Neither,
     Left(u64),
@@ -25,7 +25,7 @@ pub enum Constants {
 }
 
 // A node near the one that is simplified: a child, or a child's left child.
-#[derive(Drop)]
+#[derive(Clone, Copy)]
 pub enum Near {
     Left,
     Right,
@@ -35,7 +35,7 @@ pub enum Near {
 
 // What a rule of two children does with a child e that stands beside a constant: nothing, hand back e, make a constant,
 // or make a constant c and simplify (e op c) or (e's left child op c).
-#[derive(Drop)]
+#[derive(Clone, Copy)]
 pub enum Beside {
     Stay,
     Itself,
@@ -45,7 +45,7 @@ pub enum Beside {
 }
 
 // What a rule of two children does where they are equal trees: nothing, make the constant 0, or hand back the left one.
-#[derive(Drop)]
+#[derive(Clone, Copy)]
 pub enum Equals {
     Stay,
     Zero,
@@ -54,7 +54,7 @@ pub enum Equals {
 
 // What a rule decides: keep the node, or rebuild it with its children swapped; hand back a node near it; make a constant;
 // or make a node, over a new constant or over a node near it, and simplify that.
-#[derive(Drop)]
+#[derive(Clone, Copy)]
 pub enum Act {
     Keep,
     Swap,
@@ -65,7 +65,7 @@ pub enum Act {
 }
 
 // Of simplify: the new root and count, or the check's refusal, or 7.
-#[derive(Drop)]
+#[derive(Clone, Copy)]
 pub enum Simplified {
     Done(usize, usize),
     Refused(Verdict),

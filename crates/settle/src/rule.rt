@@ -15,7 +15,7 @@ use rules::Act;
 
 // How a rule's action was carried out: an index and a new count, or these and what stands there is to be simplified, or
 // without room for a node.
-#[derive(Drop)]
+#[derive(Clone, Copy)]
 pub enum Outcome {
     Done(usize, usize),
     Again(usize, usize),

@@ -5,7 +5,7 @@ ghost use Rattle.settle.specs.Turns.{turn_of};
 use format::Bin;
 
 // Add's and Sub's are simplified again; a plain rule rebuilds nothing.
-#[derive(Drop)]
+#[derive(Clone, Copy)]
 pub enum Turn {
     Add,
     Sub,

@@ -12,7 +12,7 @@ use rules::Act;
 use values::make_const;
 
 // An operator of one child, or of two.
-#[derive(Drop)]
+#[derive(Clone, Copy)]
 pub enum Op {
     One(Un),
     Two(Bin),

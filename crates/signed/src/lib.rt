@@ -78,7 +78,7 @@ pub fn is_negative(n: u64) -> bool
 }
 
 // A difference of constants, wrapped at 64 bits and read as an i64: its sign, and how far it is from 0.
-#[derive(Drop)]
+#[derive(Clone, Copy)]
 pub struct Difference {
     pub negative: bool,
     pub amount: u64,

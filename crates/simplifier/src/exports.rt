@@ -10,14 +10,14 @@ use rules::Simplified;
 use tree::{Evaluated, Verdict};
 
 #[repr(C)]
-#[derive(Drop)]
+#[derive(Clone, Copy)]
 pub struct CheckReply {
     pub number: u64,
     pub place: u64,
 }
 
 #[repr(C)]
-#[derive(Drop)]
+#[derive(Clone, Copy)]
 pub struct SimplifyReply {
     pub number: u64,
     pub place: u64,
@@ -26,7 +26,7 @@ pub struct SimplifyReply {
 }
 
 #[repr(C)]
-#[derive(Drop)]
+#[derive(Clone, Copy)]
 pub struct EvaluateReply {
     pub number: u64,
     pub place: u64,

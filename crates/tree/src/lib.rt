@@ -2,7 +2,7 @@
 #![tactic(auto)]
 
 // Of the check: answers 0 to 6.
-#[derive(Drop)]
+#[derive(Clone, Copy)]
 pub enum Verdict {
     Passed,
     CountAboveCapacity,
@@ -14,7 +14,7 @@ pub enum Verdict {
 }
 
 // Of evaluation: the value, or the check's refusal, or 8, 10 and 9.
-#[derive(Drop)]
+#[derive(Clone, Copy)]
 pub enum Evaluated {
     Value(u64),
     Refused(Verdict),
