@@ -6,11 +6,12 @@ use Rattle.std.proofs.Math.Decide.{dec_lt}
 use Rattle.std.proofs.Math.Nat.{min-le_left, min-le_right}
 use Rattle.arena.specs.Live.{Live, Good, tree_of, node_size, node_is_top, node_is_const, node_is_leaf}
 use Rattle.format.specs.Header.{kind_of}
-use Rattle.format.specs.KindRules.{number_of, leaf_kinds, is_const, is_leaf, const_by_kind, leaf_by_kind}
+use Rattle.format.specs.KindRules.{number_of, leaf_kinds, is_const, is_leaf}
+use Rattle.format.proofs.KindRules.{const_by_kind, leaf_by_kind}
 use Rattle.format.specs.Kinds.{kind_count, shape_of}
 use Rattle.format.specs.Limits.{node_words, max_nodes, capacity, header_at, payload_at}
 use Rattle.format.specs.Nodes.{node_of, shaped, header_of}
-use Rattle.format.specs.NodesOfWords.{node_of_unknown}
+use Rattle.format.proofs.NodesOfWords.{node_of_unknown}
 use Rattle.format.specs.declared.Node.{Node}
 use Rattle.format.specs.declared.Shape.{Shape}
 use Rattle.rules.specs.Run.{left_child}

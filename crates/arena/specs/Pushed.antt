@@ -8,7 +8,7 @@ use Rattle.arena.specs.LiveLaws.{capacity_room, live_ordered}
 use Rattle.arena.specs.declared.Step.{Step}
 use Rattle.format.specs.Limits.{node_words, capacity, header_at, payload_at}
 use Rattle.format.specs.Nodes.{node_of, header_of, payload_of}
-use Rattle.format.specs.NodesOfWords.{node_of_header}
+use Rattle.format.proofs.NodesOfWords.{node_of_header}
 use Rattle.format.specs.declared.Node.{Node}
 use Rattle.rules.specs.Run.{append}
 use Rattle.tree.specs.Arena.{node_at, nodes_of, tree_at, Below}

@@ -9,12 +9,13 @@ use borrow.Author.Tests.{eq-eqb, eqb-true}
 use Rattle.arena.specs.Live.{Live, tree_of}
 use Rattle.arena.specs.LiveLaws.{tree_of_node, below_at}
 use Rattle.equal.specs.Alike.{label_of, alike_at}
-use Rattle.format.specs.Header.{header, kind_of, size_of, left_of, right_of, space_of, InFields, fields_of_header}
-use Rattle.format.specs.KindRules.{un_number_known, bin_number_known}
+use Rattle.format.specs.Header.{header, kind_of, size_of, left_of, right_of, space_of, InFields}
+use Rattle.format.proofs.Header.{fields_of_header}
+use Rattle.format.proofs.KindRules.{un_number_known, bin_number_known}
 use Rattle.format.specs.Kinds.{shape_of, un_number, bin_number}
 use Rattle.format.specs.Limits.{header_at, payload_at}
 use Rattle.format.specs.Nodes.{node_of, shaped, header_of, payload_of, Narrow}
-use Rattle.format.specs.NodesOfWords.{field_narrow, narrow_of_words}
+use Rattle.format.proofs.NodesOfWords.{field_narrow, narrow_of_words}
 use Rattle.format.specs.Truth.{and_left, and_right, not_both}
 use Rattle.format.specs.declared.Node.{Node}
 use Rattle.format.specs.declared.Shape.{Shape}

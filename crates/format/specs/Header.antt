@@ -1,6 +1,5 @@
 -- A node's first word, and its fields. Assumes nothing.
 use Rattle.std.specs.Prelude.{◌≡◌, ℕ, ◌+◌, ◌*◌, ◌/◌, ◌%◌, ◌^◌, ◌<◌}
-use Rattle.std.proofs.Common.{arith, shr-shr}
 
 -- `bits` bits of a word, from bit `at` up
 abbrev pub field : (word at bits : ℕ) → ℕ
@@ -40,13 +39,3 @@ pub record Fields (word kind size left right space : ℕ) : Type 0 where
   pub left_is : left_of word ≡ left
   pub right_is : right_of word ≡ right
   pub space_is : space_of word ≡ space
-
--- a packed header has the fields that were put in
-pub fields_of_header : (kind size left right space : ℕ) → InFields kind size left right space →
-    Fields (header kind size left right space) kind size left right space
-fields_of_header kind size left right space h = omega arith
-
--- a word is the header of its fields
-pub header_of_fields : (word : ℕ) → word < 2 ^ 64 →
-    header (kind_of word) (size_of word) (left_of word) (right_of word) (space_of word) ≡ word
-header_of_fields word h = rw (← shr-shr word 48 8, ← shr-shr word 32 16, ← shr-shr word 16 16) (omega arith)

@@ -4,11 +4,13 @@ use Rattle.std.proofs.Common.{ap, sym, ◌∙◌, eqb-true, ltb-true, lt-ltb}
 use Rattle.std.proofs.lemmas.Bool.{lt-leb}
 use Rattle.arena.specs.Live.{Good}
 use Rattle.format.specs.Header.{kind_of, size_of, left_of, right_of, space_of}
-use Rattle.format.specs.KindRules.{number_of, arity_of, uses_space, uses_payload, row_ruled}
+use Rattle.format.specs.KindRules.{number_of, arity_of, uses_space, uses_payload}
+use Rattle.format.proofs.KindRules.{row_ruled}
 use Rattle.format.specs.Kinds.{kind_count, row_of}
 use Rattle.format.specs.Limits.{node_words, header_at, payload_at}
 use Rattle.format.specs.Nodes.{header_of, payload_of, Narrow}
-use Rattle.format.specs.NodesOfWords.{Unused, header_of_node, payload_of_node, narrow_of_words}
+use Rattle.format.specs.NodesOfWords.{Unused}
+use Rattle.format.proofs.NodesOfWords.{header_of_node, payload_of_node, narrow_of_words}
 use Rattle.format.specs.declared.Node.{Node}
 use Rattle.format.specs.declared.Row.{Row}
 use Rattle.formed.specs.Fits.{Fits, kind_known, row_fits_lem, unused_child_zero, unused_zero}

@@ -2,8 +2,10 @@
 use Rattle.std.specs.Prelude.{◌≡◌, ℕ, ◌<◌}
 use Rattle.std.proofs.Common.{ap, ◌∙◌, arith, lit<}
 use Rattle.arena.specs.Live.{node_size}
-use Rattle.format.specs.Header.{Fields, fields_of_header}
-use Rattle.format.specs.KindRules.{number_of, arity_of, uses_space, uses_payload, row_ruled, shape_of_number, un_number_known, bin_number_known}
+use Rattle.format.specs.Header.{Fields}
+use Rattle.format.proofs.Header.{fields_of_header}
+use Rattle.format.specs.KindRules.{number_of, arity_of, uses_space, uses_payload}
+use Rattle.format.proofs.KindRules.{row_ruled, shape_of_number, un_number_known, bin_number_known}
 use Rattle.format.specs.Kinds.{kind_count, row_of, un_number, bin_number}
 use Rattle.format.specs.Nodes.{header_of, Narrow}
 use Rattle.format.specs.declared.Node.{Node}

@@ -5,11 +5,12 @@ use Rattle.std.proofs.Math.Path.{refl, ap}
 use Rattle.std.proofs.Common.{sym, ◌∙◌, arith, ne_eqb}
 use Rattle.arena.specs.Live.{Good, tree_of, node_size}
 use Rattle.format.specs.Header.{kind_of, size_of}
-use Rattle.format.specs.KindRules.{number_of, arity_of, same_number}
+use Rattle.format.specs.KindRules.{number_of, arity_of}
+use Rattle.format.proofs.KindRules.{same_number}
 use Rattle.format.specs.Kinds.{row_of}
 use Rattle.format.specs.Limits.{header_at, payload_at}
 use Rattle.format.specs.Nodes.{header_of, payload_of, Narrow}
-use Rattle.format.specs.NodesOfWords.{narrow_of_words}
+use Rattle.format.proofs.NodesOfWords.{narrow_of_words}
 use Rattle.format.specs.declared.ChildSize.{ChildSize}
 use Rattle.format.specs.declared.Node.{Node}
 use Rattle.format.specs.declared.Shape.{Shape}

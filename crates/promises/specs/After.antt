@@ -6,7 +6,7 @@ use Rattle.arena.specs.Live.{Live, Good, tree_of}
 use Rattle.arena.specs.LiveLaws.{capacity_room, capacity_few, live_ordered, in_arena}
 use Rattle.format.specs.Limits.{node_words, capacity, header_at, payload_at}
 use Rattle.format.specs.Nodes.{node_of, header_of, payload_of, Narrow}
-use Rattle.format.specs.NodesOfWords.{node_of_header}
+use Rattle.format.proofs.NodesOfWords.{node_of_header}
 use Rattle.format.specs.declared.Node.{Node}
 use Rattle.formed.specs.LiveOfChecked.{Admitted, live_of_checked}
 use Rattle.formed.specs.Lines.{checked_exactly}
@@ -16,8 +16,10 @@ use Rattle.promises.specs.Words.{Words64, appended_length, appended_keeps, appen
 use Rattle.rules.specs.Call.{ran_on, appended_words, simplified_answer, words_after}
 use Rattle.rules.specs.Run.{Out}
 use Rattle.rules.specs.declared.Simplified.{Simplified}
-use Rattle.theory.specs.Simulation.{Stands, simplified_stands}
-use Rattle.theory.specs.SizedRun.{Storable, simplified_storable}
+use Rattle.theory.specs.Simulation.{Stands}
+use Rattle.theory.proofs.Simulation.{simplified_stands}
+use Rattle.theory.specs.SizedRun.{Storable}
+use Rattle.theory.proofs.SizedRun.{simplified_storable}
 use Rattle.theory.specs.TreeRun.{reduced}
 use Rattle.tree.specs.Arena.{node_at, nodes_of, at, tree_at}
 use Rattle.tree.specs.ArenaLaws.{length-nodes_of, at-nodes_of, tree_eq}

@@ -15,8 +15,8 @@ use Rattle.rules.specs.Call.{ran_on, appended_words, simplified_answer, words_af
 use Rattle.rules.specs.Run.{Out, out, weight}
 use Rattle.rules.specs.declared.Simplified.{Simplified}
 use Rattle.theory.specs.Normal.{Normal}
-use Rattle.theory.specs.Reduced.{reduced_normal}
-use Rattle.theory.specs.Simulation.{run_on_normal}
+use Rattle.theory.proofs.Reduced.{reduced_normal}
+use Rattle.theory.proofs.Simulation.{run_on_normal}
 use Rattle.tree.specs.Arena.{node_at, nodes_of}
 use Rattle.tree.specs.ArenaLaws.{length-nodes_of, nodes_of_cong}
 use Rattle.tree.specs.Form.{checked}

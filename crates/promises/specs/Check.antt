@@ -5,7 +5,7 @@ use Rattle.arena.specs.Live.{tree_of}
 use Rattle.formed.specs.LiveOfChecked.{Admitted, checked_of_live}
 use Rattle.promises.specs.After.{DoneCall, admitted, live_after, tree_after, root_after}
 use Rattle.rules.specs.Call.{words_after}
-use Rattle.theory.specs.Reduced.{reduced_nodes, reduced_path}
+use Rattle.theory.proofs.Reduced.{reduced_nodes, reduced_path}
 use Rattle.tree.specs.Form.{checked}
 use Rattle.tree.specs.Tree.{nodes, path}
 use Rattle.tree.specs.declared.Verdict.{Verdict}

@@ -2,11 +2,12 @@
 use Rattle.std.specs.Prelude.{false, List, ◌≡◌, ℕ, ◌*◌, ◌^◌, ◌<◌}
 use Rattle.std.proofs.Math.Option.{none}
 use Rattle.arena.specs.Live.{tree_of}
-use Rattle.theory.specs.MissingLaws.{HasRow, nothing_missing}
+use Rattle.theory.specs.MissingLaws.{HasRow}
+use Rattle.theory.proofs.MissingLaws.{nothing_missing}
 use Rattle.formed.specs.LiveOfChecked.{live_of_checked}
 use Rattle.promises.specs.Words.{Words64}
 use Rattle.theory.specs.Inputs.{EveryInput}
-use Rattle.theory.specs.Keeps.{value_fits}
+use Rattle.theory.proofs.Keeps.{value_fits}
 use Rattle.tree.specs.Arena.{nodes_of}
 use Rattle.tree.specs.Form.{checked}
 use Rattle.tree.specs.Meaning.{Assignment, Fitting, value}

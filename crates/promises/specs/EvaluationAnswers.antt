@@ -5,8 +5,8 @@ use Rattle.std.proofs.Math.Option.{Option, some, none}
 use Rattle.std.proofs.Math.Path.{refl, ap}
 use Rattle.std.proofs.Common.{◌∙◌, subst}
 use Rattle.arena.specs.Live.{tree_of}
-use Rattle.theory.specs.MissingLaws.{nothing_missing}
-use Rattle.theory.specs.RowLaws.{assigned_fitting}
+use Rattle.theory.proofs.MissingLaws.{nothing_missing}
+use Rattle.theory.proofs.RowLaws.{assigned_fitting}
 use Rattle.formed.specs.Lines.{Passing, Line, checked_exactly}
 use Rattle.promises.specs.Evaluation.{Assigns, evaluation_total, value_fits_size}
 use Rattle.promises.specs.Verdicts.{on_verdict}

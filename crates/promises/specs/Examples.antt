@@ -4,8 +4,8 @@ use Rattle.std.proofs.Common.{ap, sym, ◌∙◌, arith, ltb-true, lit≤}
 use Rattle.std.proofs.Math.Decide.{dec_lt, ℕ_discrete}
 use Rattle.std.proofs.Math.ListN.{get_or-append, get_or-eq_default}
 use Rattle.arena.specs.Live.{tree_of}
-use Rattle.theory.specs.MissingLaws.{nothing_missing}
-use Rattle.theory.specs.RowLaws.{assigned_fitting}
+use Rattle.theory.proofs.MissingLaws.{nothing_missing}
+use Rattle.theory.proofs.RowLaws.{assigned_fitting}
 use Rattle.format.specs.Kinds.{shape_of, row_of}
 use Rattle.format.specs.Nodes.{node_of}
 use Rattle.format.specs.Table.{every, at_line}
@@ -21,7 +21,8 @@ use Rattle.promises.specs.Words.{Words64}
 use Rattle.rules.specs.Bench.{lent_for}
 use Rattle.rules.specs.Call.{ran_on, fits, ended, simplified_answer, words_after, simplified_number, simplified_count}
 use Rattle.rules.specs.Run.{run_for}
-use Rattle.rules.specs.Whole.{p1, seven, six, p1_answer, p1_words, p1_no_room}
+use Rattle.rules.specs.Whole.{p1, seven, six}
+use Rattle.rules.proofs.Whole.{p1_answer, p1_words, p1_no_room}
 use Rattle.rules.specs.declared.Simplified.{Simplified}
 use Rattle.tree.specs.Arena.{at, nodes_of, tree_at}
 use Rattle.tree.specs.Form.{well_formed, well_sized, judged, scanned, checked}

@@ -2,11 +2,11 @@
 use Rattle.std.specs.Prelude.{false, ◌⊎◌, ◌≡◌, refl, ℕ, ◌+◌, ◌*◌, ◌/◌, ◌^◌, ◌≤◌, ◌<◌}
 use Rattle.std.proofs.Common.{inl, inr, arith}
 use Rattle.std.proofs.Math.Decide.{dec_lt}
-use Rattle.format.specs.KindRules.{un_number_known, bin_number_known}
+use Rattle.format.proofs.KindRules.{un_number_known, bin_number_known}
 use Rattle.format.specs.Limits.{node_words, max_nodes}
 use Rattle.format.specs.Nodes.{header_of, Narrow}
 use Rattle.format.specs.declared.Node.{Node}
-use Rattle.theory.specs.Sizes.{size_bounds, tree_is_size}
+use Rattle.theory.proofs.Sizes.{size_bounds, tree_is_size}
 use Rattle.tree.specs.Arena.{build, Below}
 use Rattle.tree.specs.Form.{Sized}
 use Rattle.tree.specs.Tree.{Tree, entry, const, bind, unary, binary, size, is_top}

@@ -7,7 +7,7 @@ use Rattle.formed.specs.LiveOfChecked.{live_of_checked}
 use Rattle.promises.specs.Words.{Words64}
 use Rattle.rules.specs.Call.{ran_on, fits, ended, simplified_answer, words_left, words_after}
 use Rattle.rules.specs.Run.{Out, run_for, weight}
-use Rattle.theory.specs.Simulation.{runs_agree}
+use Rattle.theory.proofs.Simulation.{runs_agree}
 use Rattle.tree.specs.Arena.{nodes_of}
 use Rattle.tree.specs.Form.{checked}
 use Rattle.tree.specs.declared.Verdict.{Verdict}

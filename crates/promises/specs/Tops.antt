@@ -6,9 +6,9 @@ use Rattle.arena.specs.Live.{tree_of}
 use Rattle.promises.specs.After.{DoneCall, tree_after}
 use Rattle.promises.specs.Values.{same_size, same_value}
 use Rattle.rules.specs.Call.{words_after}
-use Rattle.theory.specs.Inputs.{reduced_constant}
+use Rattle.theory.proofs.Inputs.{reduced_constant}
 use Rattle.theory.specs.Normal.{IsConst}
-use Rattle.theory.specs.Reduced.{reduced_top}
+use Rattle.theory.proofs.Reduced.{reduced_top}
 use Rattle.tree.specs.Meaning.{Assignment, Fitting, value}
 use Rattle.tree.specs.Tree.{const, size, is_top, has_top, has_input}
 

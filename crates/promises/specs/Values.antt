@@ -3,14 +3,14 @@ use Rattle.std.specs.Prelude.{false, List, ◌≡◌, ℕ}
 use Rattle.std.proofs.Common.{ap, sym, ◌∙◌}
 use Rattle.arena.specs.Live.{tree_of}
 use Rattle.theory.specs.MissingLaws.{HasRow}
-use Rattle.theory.specs.RowLaws.{assigned_fitting}
+use Rattle.theory.proofs.RowLaws.{assigned_fitting}
 use Rattle.formed.specs.Lines.{checked_exactly}
 use Rattle.promises.specs.Check.{passes_after}
 use Rattle.promises.specs.EvaluationAnswers.{Valued, evaluated_exactly}
 use Rattle.promises.specs.After.{DoneCall, admitted, tree_after}
 use Rattle.rules.specs.Call.{words_after}
-use Rattle.theory.specs.Inputs.{reduced_inputs}
-use Rattle.theory.specs.Values.{reduced_value, reduced_size, reduced_free}
+use Rattle.theory.proofs.Inputs.{reduced_inputs}
+use Rattle.theory.proofs.Values.{reduced_value, reduced_size, reduced_free}
 use Rattle.tree.specs.Form.{Sized}
 use Rattle.tree.specs.Meaning.{Assignment, Fitting, value}
 use Rattle.tree.specs.Rows.{assigned, evaluated}

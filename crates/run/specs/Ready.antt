@@ -13,12 +13,14 @@ use Rattle.format.specs.declared.Un.{Un}
 use Rattle.rules.specs.Run.{Out, out, unary_run, binary_run, weight, simplified}
 use Rattle.settle.specs.Chains.{after_run, ended_here, unary_child, binary_children}
 use Rattle.settle.specs.Visits.{OneAt, TwoAt}
-use Rattle.theory.specs.Normal.{Normal, normal_top}
-use Rattle.theory.specs.Reduced.{reduced_normal, reduced_top}
-use Rattle.theory.specs.Simulation.{run_on_normal, simplified_stands}
+use Rattle.theory.specs.Normal.{Normal}
+use Rattle.theory.proofs.Normal.{normal_top}
+use Rattle.theory.proofs.Reduced.{reduced_normal, reduced_top}
+use Rattle.theory.proofs.Simulation.{run_on_normal, simplified_stands}
 use Rattle.theory.specs.TreeRun.{reduced}
-use Rattle.theory.specs.Values.{over_reduced_one, over_reduced_two}
-use Rattle.theory.specs.Visits.{OverNormal, leaf_top, leaf_entry, leaf_const, leaf_bind}
+use Rattle.theory.proofs.Values.{over_reduced_one, over_reduced_two}
+use Rattle.theory.specs.Visits.{OverNormal}
+use Rattle.theory.proofs.Visits.{leaf_top, leaf_entry, leaf_const, leaf_bind}
 use Rattle.tree.specs.Arena.{node_at, nodes_of}
 use Rattle.tree.specs.ArenaLaws.{at-nodes_of, tree_stays}
 use Rattle.tree.specs.Form.{Sized, sized, un_sizing, bin_sizing, size_seen}

@@ -1,62 +1,15 @@
 -- A value fits its size, and what it is for one tree to stand in another's place. Assumes nothing.
 -- Throughout, `ok` says that a tree is well sized, `free` that no Top is reached from it, and `is` that s is a size.
-use Rattle.std.specs.Prelude.{false, true, ◌≡◌, refl, ℕ, ◌*◌, ◌%◌, ◌^◌, ◌<◌}
-use Rattle.std.proofs.Common.{true≢false, subst, arith}
-use Rattle.format.specs.Header.{header, fields_of_header}
-use Rattle.format.specs.Kinds.{row_of}
+use Rattle.std.specs.Prelude.{false, ◌≡◌, ℕ}
 use Rattle.format.specs.declared.Bin.{Bin}
-use Rattle.format.specs.declared.ChildSize.{ChildSize}
-use Rattle.format.specs.declared.Sizing.{Sizing}
 use Rattle.format.specs.declared.Un.{Un}
-use Rattle.manual.specs.Fits.{int_2comp_fits, int_sext_fits}
 use Rattle.rules.specs.declared.Act.{Act}
-use Rattle.theory.specs.Lawful.{Operands, Rebuilt, lawful}
-use Rattle.theory.specs.Sizes.{size_bounds, Allowed, allowed, child_allowed, children_allowed, tree_is_size, free_is_top, free_left, free_right, const_sized, binary_sized}
-use Rattle.theory.specs.TreeRun.{left_of, const_tree, acted_tree}
-use Rattle.tree.specs.Form.{is_size, un_sizing, bin_sizing, Sized}
-use Rattle.tree.specs.Meaning.{Assignment, Fitting, un_value, value}
-use Rattle.tree.specs.Tree.{Tree, top, entry, const, bind, unary, binary, size, has_top}
+use Rattle.theory.specs.TreeRun.{acted_tree}
+use Rattle.tree.specs.Form.{Sized}
+use Rattle.tree.specs.Meaning.{Assignment, value}
+use Rattle.tree.specs.Tree.{Tree, unary, binary, size, has_top}
 
 -- A VALUE FITS ITS SIZE
-
-un_fits : (op : Un) (s c x : ℕ) → Allowed (un_sizing op) s 0 (ChildSize.Bytes c) ChildSize.Absent → x < 2 ^ (8 * c) →
-    un_value op s c x < 2 ^ (8 * s)
-unfolding row_of
-un_fits Un.SignExtend s c x sizes fits = int_sext_fits (8 * c) (8 * s) x (omega arith) fits
-un_fits Un.Int2Comp s c x sizes fits = int_2comp_fits (8 * s) x
-
-bin_sizes : (op : Bin) (s : ℕ) (a b : Tree) → Sized (binary op s a b) → has_top (binary op s a b) ≡ false →
-    Allowed (bin_sizing op) s 0 (ChildSize.Bytes (size a)) (ChildSize.Bytes (size b))
-bin_sizes op s a b ok free =
-    children_allowed (bin_sizing op) s a b (free_is_top a (free_left a b free)) (free_is_top b (free_right a b free)) ok.0
-
-module _ (ρ : Assignment) (fitting : Fitting ρ) where
-  input_fits : (kind s space payload : ℕ) → kind < 2 ^ 8 → is_size s ≡ true → space < 2 ^ 16 →
-      ρ (header kind s 0 0 space) payload < 2 ^ (8 * s)
-  input_fits kind s space payload k is narrow =
-      let fields = fields_of_header kind s 0 0 space (omega (arith, size_bounds s is)) in
-      subst (λ (n : ℕ). ρ (header kind s 0 0 space) payload < 2 ^ (8 * n)) fields.size_is (fitting (header kind s 0 0 space) payload)
-
-  pub operands : (op : Bin) (s : ℕ) (a b : Tree) → Sized (binary op s a b) → has_top (binary op s a b) ≡ false →
-      value ρ a < 2 ^ (8 * size a) → value ρ b < 2 ^ (8 * size b) →
-      Operands (bin_sizing op) s (size a) (size b) (value ρ a) (value ρ b)
-  operands op s a b ok free fits_a fits_b = record {
-    small = (size_bounds s (tree_is_size (binary op s a b) ok refl)).1;
-    sizes = bin_sizes op s a b ok free;
-    left_fits = fits_a;
-    right_fits = fits_b;
-  }
-
-  pub value_fits : (t : Tree) → Sized t → has_top t ≡ false → value ρ t < 2 ^ (8 * size t)
-  value_fits top ok free = absurd (true≢false free)
-  value_fits (entry s space offset) ok free = input_fits 1 s space offset (omega arith) ok.0 ok.1
-  value_fits (const s v) ok free = allowed s v ChildSize.Absent ChildSize.Absent Sizing.Constant ok
-  value_fits (bind s id) ok free = input_fits 3 s 0 id (omega arith) ok (omega arith)
-  value_fits (unary op s a) ok free =
-      un_fits op s (size a) (value ρ a) (child_allowed (un_sizing op) s a (free_is_top a free) ok.0) (value_fits a ok.1 free)
-  value_fits (binary op s a b) ok free =
-      (lawful op).fits s (size a) (size b) (value ρ a) (value ρ b)
-      (operands op s a b ok free (value_fits a ok.1 (free_left a b free)) (value_fits b ok.2 (free_right a b free)))
 
 -- KEEPING: u is well sized, reaches no Top, and has s bytes and the value v
 pub record Keeps (ρ : Assignment) (s v : ℕ) (u : Tree) : Type 0 where
@@ -69,45 +22,9 @@ pub record Keeps (ρ : Assignment) (s v : ℕ) (u : Tree) : Type 0 where
 abbrev pub Replaces : Assignment → (t u : Tree) → Type 0
 Replaces ρ t u = Keeps ρ (size t) (value ρ t) u
 
-pub replaces_itself : (ρ : Assignment) (t : Tree) → Sized t → has_top t ≡ false → Replaces ρ t t
-replaces_itself ρ t ok free = record { sized = ok; size_is = refl; topless = free; value_is = refl }
-
 -- the tree that an action makes of a node, before it is simplified again
 abbrev pub bin_made : Bin → (s : ℕ) → (a b : Tree) → Act → Tree
 bin_made op s a b act = acted_tree (λ t. t) act (binary op s a b) (binary op s b a) s a b
 
 abbrev pub un_made : Un → (s : ℕ) → Tree → Act → Tree
 un_made op s a act = acted_tree (λ t. t) act (unary op s a) (unary op s a) s a a
-
-pub left_sized : (t : Tree) → Sized t → Sized (left_of t)
-left_sized top ok = ok
-left_sized (entry s space offset) ok = ok
-left_sized (const s v) ok = ok
-left_sized (bind s id) ok = ok
-left_sized (unary op s a) ok = ok.1
-left_sized (binary op s a b) ok = ok.1
-
-pub left_free : (t : Tree) → has_top t ≡ false → has_top (left_of t) ≡ false
-left_free top free = free
-left_free (entry s space offset) free = free
-left_free (const s v) free = free
-left_free (bind s id) free = free
-left_free (unary op s a) free = free
-left_free (binary op s a b) free = free_left a b free
-
--- WHAT ACTIONS MAKE: a node at hand, a constant, a node over a new constant
-
-pub given : {ρ : Assignment} {s v : ℕ} {u : Tree} → Sized u → has_top u ≡ false → (size u ≡ s) × (value ρ u ≡ v) → Keeps ρ s v u
-given ok free h = record { sized = ok; size_is = h.0; topless = free; value_is = h.1 }
-
-pub made_constant : {ρ : Assignment} {s v : ℕ} → is_size s ≡ true → (n : ℕ) → n % 2 ^ (8 * s) ≡ v → Keeps ρ s v (const_tree s n)
-made_constant {s = s} is n e = record { sized = const_sized s n is; size_is = refl; topless = refl; value_is = e }
-
-pub rebuilt : {ρ : Assignment} {s v : ℕ} → is_size s ≡ true → (op : Bin) (n : ℕ) (u : Tree) → Sized u → has_top u ≡ false →
-    Rebuilt op s (size u) (value ρ u) n v → Keeps ρ s v (binary op s u (const_tree s n))
-rebuilt {s = s} is op n u ok free h = record {
-  sized = binary_sized op s u (const_tree s n) is ok (const_sized s n is) free refl h.sizes;
-  size_is = refl;
-  topless = rw free;
-  value_is = h.value_is;
-}

@@ -8,10 +8,7 @@ pub mod Sizes
 pub mod Seen
 pub mod Lawful
 pub mod Keeps
-pub mod BinValues
-pub mod UnValues
 pub mod Values
 pub mod Visits
 pub mod SizedRun
-pub mod RowLaws
 pub mod MissingLaws

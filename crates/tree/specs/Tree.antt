@@ -3,7 +3,7 @@ use Rattle.std.specs.Prelude.{Bool, true, false, ◌||◌, ◌≡◌, refl, ℕ,
 use mathlib.Core.HLevel.{Discrete}
 use Rattle.std.proofs.Common.{ap, arith}
 use Rattle.std.proofs.Math.Decide.{ℕ_discrete}
-use Rattle.format.specs.KindRules.{same_bin_number, same_un_number}
+use Rattle.format.proofs.KindRules.{same_bin_number, same_un_number}
 use Rattle.format.specs.Kinds.{bin_number, un_number}
 use Rattle.format.specs.declared.Bin.{Bin}
 use Rattle.format.specs.declared.Un.{Un}

@@ -5,7 +5,7 @@ use mathlib.Core.Path.{◌≡◌, ap, sym, ◌∙◌}
 use native.Mathlib.Nat.{sub-zero}
 use native.Mathlib.Omega.{arith}
 use Rattle.format.specs.Header.{kind_of}
-use Rattle.format.specs.KindRules.{row_at}
+use Rattle.format.proofs.KindRules.{row_at}
 use Rattle.formed.specs.Scan.{scan_ends, scan_goes_on}
 use Rattle.form.specs.Judged.{unknown_judged}
 use Rattle.form.proofs.Refused.{refused}

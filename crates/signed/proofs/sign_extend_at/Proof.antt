@@ -2,7 +2,7 @@
 use Prim.Native.Nat.{◌*◌}
 use native.Mathlib.Omega.{arith}
 use borrow.Author.Rules.{rules}
-use Rattle.manual.specs.Cuts.{int_sext_cut}
+use Rattle.manual.proofs.Cuts.{int_sext_cut}
 use Rattle.signed.proofs.sign_extend_at.Statement.{statement}
 use Rattle.signed.proofs.sign_extend_at.Tie as tie
 

@@ -1,7 +1,7 @@
 -- `wrapped_difference` meets its contract. Assumes nothing.
 use mathlib.Core.Path.{ap, ◌∙◌}
 use borrow.Author.Rules.{rules}
-use Rattle.manual.specs.Fits.{int_sub_fits}
+use Rattle.manual.proofs.Fits.{int_sub_fits}
 use Rattle.manual.specs.Operations.{int_sub, signed}
 use Rattle.signed.proofs.Signs.{Reading, difference_negative, difference_positive}
 use Rattle.signed.proofs.wrapped_difference.Statement.{statement}

@@ -1,6 +1,6 @@
 -- `ops::mul_at` meets its contract. Assumes nothing.
 use Rattle.std.proofs.Common.{◌*◌, arith, rules}
-use Rattle.manual.specs.Cuts.{int_mult_cut}
+use Rattle.manual.proofs.Cuts.{int_mult_cut}
 use Rattle.arith.proofs.ops.mul_at.Statement.{statement}
 use Rattle.arith.proofs.ops.mul_at.Tie as tie
 

@@ -5,7 +5,7 @@ use borrow.Author.Tests.{eq-eqb, ne_eqb, not-true, not-false}
 use native.Mathlib.Nat.{sub-zero}
 use native.Mathlib.Omega.{arith}
 use Rattle.tree.specs.Rows.{bad_row_from, bad_row}
-use Rattle.theory.specs.RowLaws.{bad_step, bad_end}
+use Rattle.theory.proofs.RowLaws.{bad_step, bad_end}
 use Rattle.eval.proofs.rows.bad_row.Statement.{statement}
 use Rattle.eval.proofs.rows.bad_row.Tie as tie
 

@@ -4,7 +4,7 @@ use Prim.Native.Nat.{◌≤◌, ◌-◌, zero-le}
 use native.Mathlib.Nat.{sub-zero}
 use native.Mathlib.Omega.{arith}
 use Rattle.tree.specs.Rows.{found_from, found}
-use Rattle.theory.specs.RowLaws.{found_step, found_end}
+use Rattle.theory.proofs.RowLaws.{found_step, found_end}
 use Rattle.eval.proofs.rows.find.Statement.{statement}
 use Rattle.eval.proofs.rows.find.Tie as tie
 

@@ -1,5 +1,5 @@
 -- The operator of a kind of two children, by its number. Assumes nothing.
-use Rattle.format.specs.KindRules.{shape_by_number}
+use Rattle.format.proofs.KindRules.{shape_by_number}
 use Rattle.format.specs.declared.Bin.{Bin}
 use Rattle.format.specs.declared.Shape.{Shape}
 use Rattle.words.proofs.Arms.{NoneAfter, first_left}

@@ -2,7 +2,7 @@
 use borrow.Author.Rules.{rules}
 use mathlib.Core.Path.{sym}
 use native.Mathlib.Omega.{arith}
-use Rattle.format.specs.KindRules.{shape_by_number, shape_of_unknown}
+use Rattle.format.proofs.KindRules.{shape_by_number, shape_of_unknown}
 use Rattle.words.proofs.kinds.shape_of.Statement.{statement}
 use Rattle.words.proofs.kinds.shape_of.Tie as tie
 

@@ -1,7 +1,7 @@
 -- A node's header, by its kind. Assumes nothing.
 use borrow.Author.Rules.{rules}
 use native.Mathlib.Omega.{arith}
-use Rattle.format.specs.KindRules.{un_number_known, bin_number_known}
+use Rattle.format.proofs.KindRules.{un_number_known, bin_number_known}
 use Rattle.words.proofs.nodes.header_of.Statement.{statement}
 use Rattle.words.proofs.nodes.header_of.Tie as tie
 

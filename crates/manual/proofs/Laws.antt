@@ -10,7 +10,7 @@ use Rattle.std.proofs.Math.IntN.{+ℤ_invr}
 use Rattle.manual.specs.Operations.{int_add, int_sub, int_mult, int_2comp, int_xor, int_or, int_left, int_right, int_sright, int_sext}
 use Rattle.manual.specs.Operations.{int_sborrow, signed, unfit}
 use Rattle.manual.specs.Modulo.{same_remainder, remainder}
-use Rattle.manual.specs.Halves.{below_or, two_halves, int_sright_lower, int_sright_upper, int_sext_lower, int_sext_upper}
+use Rattle.manual.proofs.Halves.{below_or, two_halves, int_sright_lower, int_sright_upper, int_sext_lower, int_sext_upper}
 
 -- Commuting
 

@@ -6,7 +6,7 @@ use Rattle.std.proofs.Math.Pow.{pow-sub-lt}
 use Rattle.std.specs.Int.Signed.{mag}
 use Rattle.manual.specs.Operations.{int_add, int_sub, int_mult, int_2comp, int_xor, int_or, int_left, int_right, int_sright, int_sext}
 use Rattle.manual.specs.Operations.{int_carry, int_scarry, int_sborrow, signed, unfit}
-use Rattle.manual.specs.Halves.{below_or, int_sright_lower, int_sright_upper, int_sext_lower, int_sext_upper}
+use Rattle.manual.proofs.Halves.{below_or, int_sright_lower, int_sright_upper, int_sext_lower, int_sext_upper}
 
 pub int_add_fits : (w a b : ℕ) → int_add w a b < 2 ^ w
 int_add_fits w a b = mod-lt (a + b) (pow_pos w)

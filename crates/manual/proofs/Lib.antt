@@ -1,0 +1,5 @@
+pub mod Cuts
+pub mod Fits
+pub mod Halves
+pub mod Laws
+pub mod Rewritings
