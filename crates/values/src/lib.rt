@@ -24,6 +24,7 @@ pub fn un_value(op: Un, size: u64, child: u64, x: u64) -> u64
 }
 
 // x is a number of `child` bytes.
+#[tactic(auto, unfolding(format::specs::Kinds::row_of))]
 pub fn bin_value(op: Bin, size: u64, child: u64, x: u64, y: u64) -> u64
     requires { Fitting (bin_sizing op) size child x y }
     ensures { result ≡ bin_value op size child x y }
