@@ -2,9 +2,9 @@
 #![tactic(auto)]
 
 ghost use Rattle.std.specs.Prelude.{◌≡◌, ◌+◌, ◌*◌, ◌<◌, length};
-ghost use Rattle.format.specs.Limits.{node_words, capacity as capacityOf, header_at, payload_at};
+ghost use Rattle.format.specs.Limits.{node_words, capacity as capacity_of, header_at, payload_at};
 ghost use Rattle.tree.specs.Arena.{node_at, nodes_of};
-ghost use Rattle.rules.specs.Run.{append, left_child, near as nearOf};
+ghost use Rattle.rules.specs.Run.{append, left_child, near as near_of};
 ghost use Rattle.arena.specs.Live.{Live, New, node_size, node_is_top, node_is_const, node_is_leaf};
 ghost use Rattle.arena.specs.Ended.{Ended};
 
@@ -26,7 +26,7 @@ pub enum Step {
 
 // How many nodes a slice of `len` words holds.
 pub fn capacity(len: usize) -> usize
-    ensures { result ≡ capacityOf len }
+    ensures { result ≡ capacity_of len }
 {
     let nodes = len / NODE_WORDS;
     if nodes < MAX_NODES { nodes } else { MAX_NODES }
@@ -115,7 +115,7 @@ fn left_child(node: Node, i: usize) -> usize
 pub fn near(words: &[u64], count: usize, which: Near, a: usize, b: usize) -> usize
     requires live { Live words.now count }
     requires a_lt_count { (a < count) × (b < count) }
-    ensures { (result ≡ nearOf which (nodes_of count words.now) a b) × (result < count) }
+    ensures { (result ≡ near_of which (nodes_of count words.now) a b) × (result < count) }
 {
     match which {
         Near::Left => a,

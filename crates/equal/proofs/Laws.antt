@@ -1,11 +1,6 @@
 -- Two trees are equal exactly where their nodes are alike and their children's trees are equal. Assumes nothing.
-use mathlib.Core.Bool.{Bool, true, false, ◌&&◌}
-use mathlib.Core.List.{List}
-use mathlib.Core.Path.{◌≡◌, refl, ap, ap₂, sym, ◌∙◌}
-use Prim.Native.Nat.{ℕ, ◌<◌}
-use native.Mathlib.Omega.{arith}
-use lib.Dec.{eqb}
-use borrow.Author.Tests.{eq-eqb, eqb-true}
+use Rattle.std.specs.Prelude.{Bool, true, false, ◌&&◌, List, ◌≡◌, refl, ℕ, ◌<◌, eqb}
+use Rattle.std.proofs.Common.{ap, ap₂, sym, ◌∙◌, arith, eq-eqb, eqb-true}
 use Rattle.arena.specs.Live.{Live, tree_of}
 use Rattle.arena.specs.LiveLaws.{tree_of_node, below_at}
 use Rattle.equal.specs.Alike.{label_of, alike_at}

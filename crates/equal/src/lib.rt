@@ -3,7 +3,7 @@
 
 ghost use Rattle.std.specs.Prelude.{◌≡◌, ◌+◌, ◌*◌, ◌<◌, length};
 ghost use Rattle.format.specs.Limits.{node_words};
-ghost use Rattle.tree.specs.Tree.{same as sameTree};
+ghost use Rattle.tree.specs.Tree.{same as same_tree};
 ghost use Rattle.arena.specs.Live.{Live, tree_of};
 ghost use Rattle.equal.specs.Alike.{label_of, alike_at};
 
@@ -33,7 +33,7 @@ fn alike(words: &[u64], i: usize, j: usize) -> bool
 pub fn same(words: &[u64], count: usize, i: usize, j: usize) -> bool
     requires live { Live words.now count }
     requires i_lt_count { (i < count) × (j < count) }
-    ensures { result ≡ sameTree (tree_of count words.now i) (tree_of count words.now j) }
+    ensures { result ≡ same_tree (tree_of count words.now i) (tree_of count words.now j) }
 {
     if !alike(words, i, j) {
         return false;

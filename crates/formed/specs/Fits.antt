@@ -1,8 +1,6 @@
 -- What a well-formed node's fields are, one by one. Assumes nothing.
-use Rattle.std.specs.Prelude.{Bool, true, false, ◌&&◌, List, ◌≡◌, refl, ℕ, ◌+◌, ◌*◌, ◌<◌, leb, length}
-use Rattle.std.proofs.Common.{arith}
-use Rattle.std.proofs.Math.Dec.{ltb}
-use borrow.Author.Tests.{eqb-true, ltb-true}
+use Rattle.std.specs.Prelude.{Bool, true, false, ◌&&◌, List, ◌≡◌, refl, ℕ, ◌+◌, ◌*◌, ◌<◌, leb, ltb, length}
+use Rattle.std.proofs.Common.{arith, eqb-true, ltb-true}
 use Rattle.format.specs.Header.{kind_of, left_of, right_of, space_of}
 use Rattle.format.specs.Kinds.{kind_count, row_of}
 use Rattle.format.specs.Limits.{node_words, header_at, payload_at}

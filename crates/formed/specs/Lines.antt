@@ -1,7 +1,7 @@
 -- The check gives each number exactly where its line of 01 holds and no line before it does. Assumes nothing.
 use Rattle.std.specs.Prelude.{List, ◌↔◌, ◌≡◌, ℕ, ◌≤◌, ◌<◌, leb, ltb, length}
-use Rattle.std.proofs.Common.{subst, ◌∙◌, zero-le, arith}
-use borrow.Author.Tests.{leb-true, leb-false, ltb-true, ltb-false, le-leb, lt-leb}
+use Rattle.std.proofs.Common.{subst, ◌∙◌, zero-le, arith, leb-true, leb-false, ltb-true, ltb-false, le-leb}
+use Rattle.std.proofs.lemmas.Bool.{lt-leb}
 use Rattle.arena.specs.Live.{tree_of}
 use Rattle.format.specs.Limits.{capacity, max_path, max_unfolded}
 use Rattle.format.specs.Truth.{either_knowing}

@@ -1,6 +1,7 @@
 -- The check, question by question: the count, the root, the nodes, the limits. Assumes nothing.
 use Rattle.std.specs.Prelude.{List, ◌≡◌, ℕ, ◌≤◌, ◌<◌, length}
-use borrow.Author.Tests.{le-leb, lt-leb, lt-ltb, le-ltb}
+use Rattle.std.proofs.Common.{le-leb, lt-ltb, le-ltb}
+use Rattle.std.proofs.lemmas.Bool.{lt-leb}
 use Rattle.arena.specs.Live.{tree_of}
 use Rattle.format.specs.Limits.{capacity}
 use Rattle.tree.specs.Form.{scanned, or_else, limited, checked}

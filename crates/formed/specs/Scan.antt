@@ -1,11 +1,6 @@
 -- What the scan's verdict tells: it passes exactly if every node is well made, and else it names the first that is not. Assumes nothing.
-use Rattle.std.specs.Prelude.{Bool, cond, List, ◌≡◌}
-use Rattle.std.proofs.Math.Bool.{true, false}
-use Rattle.std.proofs.Math.Logic.{⊎_elim}
-use Rattle.std.proofs.Math.Path.{refl, ap, subst}
-use Rattle.std.proofs.Common.{◌∙◌, eq-or-lt_of_le, add-one}
-use Prim.Native.Nat.{ℕ, zero, suc, ◌+◌, ◌-◌, ◌≤◌, ◌<◌, zero-le}
-use native.Mathlib.Omega.{arith}
+use Rattle.std.specs.Prelude.{Bool, true, false, cond, List, ◌≡◌, refl, ℕ, zero, suc, ◌+◌, ◌-◌, ◌≤◌, ◌<◌}
+use Rattle.std.proofs.Common.{ap, subst, ◌∙◌, eq-or-lt_of_le, add-one, zero-le, arith, ⊎_elim}
 use Rattle.tree.specs.Form.{well_formed, well_sized, judged, or_else, scanned}
 use Rattle.tree.specs.declared.Verdict.{Verdict}
 

@@ -1,8 +1,6 @@
 -- The rule of sizes over words is the rule over trees. Assumes nothing.
-use Rattle.std.specs.Prelude.{Bool, false, cond, List, ◌≡◌, ℕ, zero, suc, ◌<◌, eqb, leb}
-use Rattle.std.proofs.Math.Bool.{true}
-use Rattle.std.proofs.Math.Path.{refl, ap}
-use Rattle.std.proofs.Common.{sym, ◌∙◌, arith, ne_eqb}
+use Rattle.std.specs.Prelude.{Bool, true, false, cond, List, ◌≡◌, refl, ℕ, zero, suc, ◌<◌, eqb, leb}
+use Rattle.std.proofs.Common.{ap, sym, ◌∙◌, arith, ne_eqb}
 use Rattle.arena.specs.Live.{Good, tree_of, node_size}
 use Rattle.format.specs.Header.{kind_of, size_of}
 use Rattle.format.specs.KindRules.{number_of, arity_of}

@@ -99,6 +99,7 @@ pub fn table() -> [Row; KIND_COUNT]
 }
 
 // The operator of a kind of two children, whose number is one from 4 to 15 other than 12.
+#[tactic(auto, unfolding(format::specs::Kinds::shape_of))]
 fn bin_of(kind: usize) -> Bin
     requires { (4 ≤ kind) × (kind < 16) × (kind ≡ 12 → ⊥) }
     ensures { shape_of kind ≡ Shape.Binary result }
@@ -119,6 +120,7 @@ fn bin_of(kind: usize) -> Bin
 }
 
 // A number that is no kind's has Top's shape. The operators of two children are read off a table, with no jump for each of them.
+#[tactic(auto, unfolding(format::specs::Kinds::shape_of))]
 pub fn shape_of(kind: usize) -> Shape
     ensures { result ≡ shape_of kind }
 {

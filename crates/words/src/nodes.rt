@@ -22,6 +22,7 @@ fn shaped_node(shape: Shape, word: u64, payload: u64) -> Node
 }
 
 // The node that two words stand for. A number that is no kind's reads as Top; the check refuses it.
+#[tactic(auto, unfolding(format::specs::Nodes::node_of))]
 pub fn node_of(word: u64, payload: u64) -> Node
     ensures { result ≡ node_of word payload }
 {
