@@ -1,0 +1,17 @@
+-- The decision on a node of one child. Assumes nothing.
+use Rattle.std.proofs.Common.{sym}
+use Rattle.acts.specs.Decided.{sext_fits, neg_fits}
+use Rattle.arena.specs.LiveLaws.{size_at}
+use Rattle.acts.proofs.decide.un_act.Goals as goal
+
+pub sext_act-requires : goal.sext_act-requires
+sext_act-requires c =
+    rw (c.size_of.ensures, c.node_at.ensures, ← (size_at c.requires.live c.args.a c.requires.unary_over.below))
+    (sext_fits c.requires.live (rw c.in-SignExtend.is at c.requires.unary_over) c.view_at-view.result c.view_at-view.ensures)
+
+pub neg_act-requires : goal.neg_act-requires
+neg_act-requires c = neg_fits c.requires.live (rw c.in-Int2Comp.is at c.requires.unary_over) c.view_at-view.result c.view_at-view.ensures
+
+pub returns-in-SignExtend : goal.returns-in-SignExtend
+returns-in-SignExtend c =
+    rw (c.in-SignExtend.is, size_at c.requires.live c.args.a c.requires.unary_over.below, ← c.node_at.ensures, ← c.size_of.ensures, ← c.view_at-view.ensures) c.sext_act.ensures
