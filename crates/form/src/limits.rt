@@ -5,7 +5,7 @@ ghost use Rattle.form.specs.Children.{children_of, Within};
 ghost use Rattle.form.specs.Paths.{left_over};
 ghost use Rattle.format.specs.Limits.{node_words};
 ghost use Rattle.tree.specs.Arena.{node_at};
-ghost use Rattle.tree.specs.Form.{limited as limitedOf};
+ghost use Rattle.tree.specs.Form.{limited as limited_of};
 ghost use Rattle.tree.specs.Tree.{nodes, path};
 
 use format::Node;
@@ -77,7 +77,7 @@ fn left_over(words: &[u64], count: usize, i: usize, budget: u64, most: u64) -> u
 // Both limits in one walk. Where it has nothing left, a second walk tells which limit it was: the nodes come first.
 pub fn limited(words: &[u64], count: usize, root: usize) -> Verdict
     requires { Within words.now count root }
-    ensures { result ≡ limitedOf (tree_of count words.now root) }
+    ensures { result ≡ limited_of (tree_of count words.now root) }
 {
     if 0 < left_over(words, count, root, MAX_UNFOLDED + 1, MAX_PATH) {
         return Verdict::Passed;

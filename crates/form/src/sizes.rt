@@ -2,7 +2,7 @@
 ghost use Rattle.std.specs.Prelude.{true, ◌≡◌, ◌+◌, ◌*◌, ◌^◌, ◌<◌, leb, ltb, length};
 ghost use Rattle.format.specs.Header.{left_of, right_of};
 ghost use Rattle.format.specs.Limits.{node_words};
-ghost use Rattle.tree.specs.Form.{is_size, same_size, no_wider, one_size, sized as sizedOf, child_size, row_sized};
+ghost use Rattle.tree.specs.Form.{is_size, same_size, no_wider, one_size, sized as sized_of, child_size, row_sized};
 
 use format::{ChildSize, Row, Sizing};
 
@@ -54,7 +54,7 @@ pub fn fits(value: u64, size: u64) -> bool
 }
 
 fn sized(sizing: Sizing, size: u64, payload: u64, left: ChildSize, right: ChildSize) -> bool
-    ensures { result ≡ sizedOf sizing size payload left right }
+    ensures { result ≡ sized_of sizing size payload left right }
 {
     let known = is_size(size);
     match sizing {
