@@ -1,7 +1,7 @@
 -- A node that passes hands the verdict on to the nodes after it, and any other verdict is the scan's. Assumes nothing.
 use Rattle.std.proofs.Common.{ap, sym, ◌∙◌, arith}
 use Rattle.format.specs.Header.{kind_of}
-use Rattle.format.specs.KindRules.{row_at}
+use Rattle.format.proofs.KindRules.{row_at}
 use Rattle.formed.specs.Scan.{scan_ends, scan_goes_on}
 use Rattle.form.specs.Judged.{unknown_judged}
 use Rattle.form.proofs.Refused.{refused}
