@@ -1,23 +1,16 @@
 -- What the calls promise, gathered: every statement that docs/PROMISES.md names, over the definitions `checked`, `evaluated`,
--- `simplified_answer` and `words_after`. Their proofs are in the files beside this one. Assumes nothing.
-use Rattle.std.specs.Prelude.{false, List, map, ◌↔◌, ◌≡◌, ℕ, ◌+◌, ◌*◌, ◌/◌, ◌^◌, ◌≤◌, ◌<◌, length, get_or, drop}
+-- `simplified_answer` and `words_after`. The theorems are in proofs/Promises.antt, from the files beside it. Assumes nothing.
+use Rattle.std.specs.Prelude.{false, List, ◌↔◌, ◌≡◌, ℕ, ◌+◌, ◌*◌, ◌/◌, ◌^◌, ◌≤◌, ◌<◌, length, get_or, drop}
 use Rattle.arena.specs.Live.{tree_of}
 use Rattle.format.specs.Limits.{node_words, capacity}
-use Rattle.formed.specs.Lines.{Line, checked_exactly}
-use Rattle.promises.specs.Again.{stays_anywhere, words_stay_anywhere, again_answer, again_words, again_in_any_slice, again_words_in_any_slice}
-use Rattle.promises.specs.Alike.{same_tree}
-use Rattle.promises.specs.Answers.{SimplifyLine, simplified_exactly}
-use Rattle.promises.specs.Check.{no_more_nodes, no_longer_path, passes_after}
-use Rattle.promises.specs.Evaluation.{Assigns, evaluation_total, value_fits_size}
-use Rattle.promises.specs.EvaluationAnswers.{EvaluationLine, evaluated_exactly, answer_fits}
-use Rattle.promises.specs.FirstRows.{FirstBad, bad_row_is_first, inputs, FirstWithoutRow, missing_is_first}
-use Rattle.promises.specs.After.{DoneCall, with_room, nodes_after}
-use Rattle.promises.specs.Room.{refused_alters_nothing, root_and_count, no_value, Cleared, no_room_clears, Appended, done_appends, done_count, words64_always}
-use Rattle.promises.specs.Steps.{more_steps_answer, more_steps_words}
-use Rattle.promises.specs.Tops.{top_exactly, one_constant}
-use Rattle.promises.specs.Values.{same_size, same_value, same_evaluation}
+use Rattle.formed.specs.Lines.{Line}
+use Rattle.promises.specs.Answers.{SimplifyLine}
+use Rattle.promises.specs.Evaluation.{Assigns}
+use Rattle.promises.specs.EvaluationAnswers.{EvaluationLine}
+use Rattle.promises.specs.FirstRows.{FirstBad, inputs, FirstWithoutRow}
+use Rattle.promises.specs.After.{DoneCall}
+use Rattle.promises.specs.Room.{Cleared, Appended}
 use Rattle.promises.specs.Words.{Words64}
-use Rattle.rules.specs.Bench.{seen, expected, bench, bench_holds}
 use Rattle.rules.specs.Call.{ran_on, fits, ended, simplified_answer, words_left, words_after, simplified_number, simplified_root, simplified_count}
 use Rattle.rules.specs.Run.{run_for, weight}
 use Rattle.rules.specs.declared.Simplified.{Simplified}
@@ -49,20 +42,6 @@ pub record Answering (words : List ℕ) (count root : ℕ) : Type 0 where
   pub missing_input : (rows : List ℕ) (i : ℕ) → evaluated words count root rows ≡ Evaluated.InputMissing i →
       FirstWithoutRow rows (nodes_of count words) (inputs (nodes_of count words) root) i
 
-pub answering : (words : List ℕ) (count root : ℕ) → Answering words count root
-answering words count root = record {
-  check_exactly = checked_exactly words count root;
-  simplify_exactly = simplified_exactly words count root;
-  evaluate_exactly = evaluated_exactly words count root;
-  refusal_words = refused_alters_nothing words count root;
-  no_room_words = no_room_clears words count root;
-  words64_kept = words64_always words count root;
-  unmoved = root_and_count (simplified_answer words count root) count;
-  valueless = λ rows. no_value (evaluated words count root rows);
-  bad_row = λ rows j e. bad_row_is_first rows j ((evaluated_exactly words count root rows (Evaluated.BadRow j)).0 e).1;
-  missing_input = λ rows i e. missing_is_first rows (nodes_of count words) root i ((evaluated_exactly words count root rows (Evaluated.InputMissing i)).0 e).3;
-}
-
 -- WHAT PASSES THE CHECK
 pub record Passed (words : List ℕ) (count root : ℕ) : Type 0 where
   pub words64 : Words64 words
@@ -85,16 +64,6 @@ pub record PastCheck (words : List ℕ) (count root : ℕ) : Type 0 where
   pub steps_words : (steps : ℕ) → weight (tree_of count words root) ≤ steps →
       let o = run_for steps (nodes_of count words) root in
       words_after words count root ≡ words_left (ended (fits words o) o) words count o
-
-pub past_check : {words : List ℕ} {count root : ℕ} → Passed words count root → PastCheck words count root
-past_check {words} {count} {root} p = record {
-  total = evaluation_total words count root p.passes;
-  answer_in_size = λ rows. answer_fits words count root rows p.words64;
-  value_in_size = λ topless. value_fits_size words count root p.passes topless p.words64;
-  done = λ room. with_room words count root p.words64 p.passes room;
-  steps_answer = more_steps_answer words count root p.words64 p.passes;
-  steps_words = more_steps_words words count root p.words64 p.passes;
-}
 
 -- A CALL OF SIMPLIFY THAT WAS DONE
 pub record Simplifying (words : List ℕ) (count root root' m : ℕ) : Type 0 where
@@ -127,34 +96,3 @@ pub record Simplifying (words : List ℕ) (count root root' m : ℕ) : Type 0 wh
   pub appended : Appended words (words_after words count root) count root m
   pub nodes_are : nodes_of m (words_after words count root) ≡ (ran_on words count root).arena
   pub count_is : m ≡ count + length (drop count (ran_on words count root).arena)
-
-pub simplifying : {words : List ℕ} {count root root' m : ℕ} → DoneCall words count root root' m → Simplifying words count root root' m
-simplifying call = record {
-  size_kept = same_size call;
-  value_kept = same_value call;
-  evaluation_kept = same_evaluation call;
-  passes = passes_after call;
-  nodes_within = no_more_nodes call;
-  path_within = no_longer_path call;
-  top_is = top_exactly call;
-  constant_is = one_constant call;
-  again = again_answer call;
-  again_same_words = again_words call;
-  anywhere = stays_anywhere call;
-  anywhere_same_words = words_stay_anywhere call;
-  any_slice = again_in_any_slice call;
-  any_slice_same_words = again_words_in_any_slice call;
-  appended = done_appends call;
-  nodes_are = nodes_after call;
-  count_is = done_count call;
-}
-
--- 01, contracts: two done calls whose trees under the root are the same give the same simplified tree
-pub alike : {words words₂ : List ℕ} {count root root' m count₂ root₂ root₂' m₂ : ℕ} →
-    DoneCall words count root root' m → DoneCall words₂ count₂ root₂ root₂' m₂ → tree_of count words root ≡ tree_of count₂ words₂ root₂ →
-    tree_of m (words_after words count root) root' ≡ tree_of m₂ (words_after words₂ count₂ root₂) root₂'
-alike call call₂ e = same_tree call call₂ e
-
--- 01, examples: P1 to P12
-pub at_the_bench : map seen bench ≡ map expected bench
-at_the_bench = bench_holds

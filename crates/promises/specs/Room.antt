@@ -1,38 +1,9 @@
 -- Every word after a call of simplify: refusals leave all, no room clears the free ones, done appends. Assumes nothing.
-use Rattle.std.specs.Prelude.{List, ◌≡◌, refl, ℕ, ◌+◌, ◌*◌, ◌^◌, ◌≤◌, ◌<◌, length, get_or, drop}
-use Rattle.std.proofs.Math.Decide.{dec_lt}
-use Rattle.std.proofs.Common.{le_refl, arith, length-drop}
-use Rattle.arena.specs.LiveLaws.{capacity_room}
+use Rattle.std.specs.Prelude.{List, ◌≡◌, ℕ, ◌*◌, ◌≤◌, ◌<◌, length, get_or}
 use Rattle.format.specs.Limits.{node_words, capacity, header_at, payload_at}
 use Rattle.format.specs.Nodes.{header_of, payload_of}
-use Rattle.promises.specs.Answers.{simplified_exactly}
-use Rattle.promises.specs.After.{DoneCall, fitted, grown, room, after_is, after_length, after_kept, header_new, payload_new, words64_after}
-use Rattle.promises.specs.Words.{Words64, appended_leaves, cleared_length, cleared_keeps, cleared_zero, cleared_leaves}
-use Rattle.rules.specs.Call.{ran_on, simplified_answer, words_after, simplified_number, simplified_root, simplified_count}
-use Rattle.rules.specs.declared.Simplified.{Simplified}
+use Rattle.rules.specs.Call.{ran_on}
 use Rattle.tree.specs.Arena.{at}
-use Rattle.tree.specs.Rows.{evaluated_number, evaluated_value}
-use Rattle.tree.specs.declared.Evaluated.{Evaluated}
-use Rattle.tree.specs.declared.Verdict.{Verdict}
-
--- DEMAND 1: a refusal alters no word
-pub refused_alters_nothing : (words : List ℕ) (count root : ℕ) (v : Verdict) → simplified_answer words count root ≡ Simplified.Refused v →
-    words_after words count root ≡ words
-unfolding words_after
-refused_alters_nothing words count root v e = rw e
-
--- DEMAND 1: and neither a refusal nor no room moves the count; both return root 0, and a refused evaluation value 0
-pub root_and_count : (answer : Simplified) (count : ℕ) → (simplified_number answer ≡ 0 → ⊥) → (simplified_root answer ≡ 0) × (simplified_count answer count ≡ count)
-root_and_count (Simplified.Done root m) count other = absurd (other refl)
-root_and_count (Simplified.Refused v) count other = (refl, refl)
-root_and_count Simplified.NoRoom count other = (refl, refl)
-
-pub no_value : (answer : Evaluated) → (evaluated_number answer ≡ 0 → ⊥) → evaluated_value answer ≡ 0
-no_value (Evaluated.Value v) other = absurd (other refl)
-no_value (Evaluated.Refused v) other = refl
-no_value (Evaluated.BadRow j) other = refl
-no_value Evaluated.TopReachable other = refl
-no_value (Evaluated.InputMissing i) other = refl
 
 -- the words after no room: those of the old nodes and those past the capacity are kept, and those between are zero
 pub record Cleared (words after : List ℕ) (count : ℕ) : Type 0 where
@@ -40,20 +11,6 @@ pub record Cleared (words after : List ℕ) (count : ℕ) : Type 0 where
   pub kept : (k : ℕ) → k < node_words * count → get_or after k 0 ≡ get_or words k 0
   pub zero_between : (k : ℕ) → node_words * count ≤ k → k < node_words * capacity (length words) → get_or after k 0 ≡ 0
   pub past : (k : ℕ) → node_words * capacity (length words) ≤ k → get_or after k 0 ≡ get_or words k 0
-
--- DEMAND 1: after "no room" the free words are zero
-pub no_room_clears : (words : List ℕ) (count root : ℕ) → simplified_answer words count root ≡ Simplified.NoRoom →
-    Cleared words (words_after words count root) count
-unfolding words_after
-no_room_clears words count root e =
-    let fits = ((simplified_exactly words count root Simplified.NoRoom).0 e).0.room in
-    let inside = capacity_room (length words) (capacity (length words)) (le_refl (capacity (length words))) in
-    rw e (record {
-      same_length = cleared_length words count fits inside;
-      kept = cleared_keeps words count fits inside;
-      zero_between = cleared_zero words count fits inside;
-      past = cleared_leaves words count fits inside;
-    })
 
 -- the words after a done call: those of the old nodes and those past the new count are kept, and the run's nodes stand between
 pub record Appended (words after : List ℕ) (count root m : ℕ) : Type 0 where
@@ -63,38 +20,3 @@ pub record Appended (words after : List ℕ) (count root m : ℕ) : Type 0 where
   pub header_is : (i : ℕ) → count ≤ i → i < m → header_at after i ≡ header_of (at (ran_on words count root).arena i)
   pub payload_is : (i : ℕ) → count ≤ i → i < m → payload_at after i ≡ payload_of (at (ran_on words count root).arena i)
   pub later : (k : ℕ) → node_words * m ≤ k → get_or after k 0 ≡ get_or words k 0
-
--- 01, contracts: one possible content for every lent word, placement of new nodes included
-pub done_appends : {words : List ℕ} {count root root' m : ℕ} → DoneCall words count root root' m → Appended words (words_after words count root) count root m
-done_appends {words} {count} {root} {root'} {m} call =
-    let total = (fitted call).count_is in
-    record {
-      same_length = after_length call;
-      no_fewer = rw (← total) (grown call);
-      kept = after_kept call;
-      header_is = λ i from to. header_new call i from (rw total to);
-      payload_is = λ i from to. payload_new call i from (rw total to);
-      later = λ k h. rw (after_is call) (appended_leaves words count (ran_on words count root) (grown call) (room call) k (rw total h));
-    }
-
--- 01, contracts: the count is the old one and the nodes that the rules append
-pub done_count : {words : List ℕ} {count root root' m : ℕ} → DoneCall words count root root' m → m ≡ count + length (drop count (ran_on words count root).arena)
-done_count {words} {count} {root} call =
-    omega (arith, (fitted call).count_is, grown call, length-drop count (ran_on words count root).arena)
-
--- whatever the answer, the words are of 64 bits again
-cleared_words64 : (words after : List ℕ) (count : ℕ) → Cleared words after count → Words64 words → Words64 after
-cleared_words64 words after count c words64 k = go (dec_lt k (node_words * count)) (dec_lt k (node_words * capacity (length words)))
-  where
-    go : Dec (k < node_words * count) → Dec (k < node_words * capacity (length words)) → get_or after k 0 < 2 ^ 64
-    go (yes old) d = rw (c.kept k old) (words64 k)
-    go (no free) (yes inside) = rw (c.zero_between k (omega arith) inside) (omega arith)
-    go (no free) (no out) = rw (c.past k (omega arith)) (words64 k)
-
-pub words64_always : (words : List ℕ) (count root : ℕ) → Words64 words → Words64 (words_after words count root)
-words64_always words count root words64 = by_answer (simplified_answer words count root) refl
-  where
-    by_answer : (answer : Simplified) → simplified_answer words count root ≡ answer → Words64 (words_after words count root)
-    by_answer (Simplified.Done root' m) e = words64_after (record { words64 = words64; answer = e })
-    by_answer (Simplified.Refused v) e = rw (refused_alters_nothing words count root v e) words64
-    by_answer Simplified.NoRoom e = cleared_words64 words (words_after words count root) count (no_room_clears words count root e) words64

@@ -15,7 +15,8 @@ use Rattle.promises.specs.Bench.{answer42}
 use Rattle.promises.specs.Evaluation.{Assigns}
 use Rattle.promises.specs.FirstRows.{FirstBad, FirstWithoutRow}
 use Rattle.promises.specs.After.{DoneCall}
-use Rattle.promises.specs.Promises.{answering, Passed, past_check, Simplifying, simplifying, alike}
+use Rattle.promises.specs.Promises.{Passed, Simplifying}
+use Rattle.promises.proofs.Promises.{answering, past_check, simplifying, alike}
 use Rattle.promises.specs.Room.{Cleared}
 use Rattle.promises.specs.Words.{Words64}
 use Rattle.rules.specs.Bench.{lent_for}
@@ -24,7 +25,7 @@ use Rattle.rules.specs.Run.{run_for}
 use Rattle.rules.specs.Whole.{p1, seven, six}
 use Rattle.rules.proofs.Whole.{p1_answer, p1_words, p1_no_room}
 use Rattle.rules.specs.declared.Simplified.{Simplified}
-use Rattle.tree.specs.Arena.{at, nodes_of, tree_at}
+use Rattle.tree.specs.Arena.{nodes_of, tree_at}
 use Rattle.tree.specs.Form.{well_formed, well_sized, judged, scanned, checked}
 use Rattle.tree.specs.Meaning.{value}
 use Rattle.tree.specs.Rows.{good_row, bad_row_from, found_from, assigned, missing, evaluated, evaluated_number, evaluated_value}

@@ -3,8 +3,9 @@ use Rattle.std.specs.Prelude.{false, List, ◌≡◌, ℕ}
 use Rattle.std.proofs.Common.{ap, sym, ◌∙◌}
 use Rattle.std.proofs.Math.Path.{ap₂}
 use Rattle.arena.specs.Live.{tree_of}
-use Rattle.promises.specs.After.{DoneCall, tree_after}
-use Rattle.promises.specs.Values.{same_size, same_value}
+use Rattle.promises.specs.After.{DoneCall}
+use Rattle.promises.proofs.After.{tree_after}
+use Rattle.promises.proofs.Values.{same_size, same_value}
 use Rattle.rules.specs.Call.{words_after}
 use Rattle.theory.proofs.Inputs.{reduced_constant}
 use Rattle.theory.specs.Normal.{IsConst}

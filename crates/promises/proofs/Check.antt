@@ -3,7 +3,8 @@ use Rattle.std.specs.Prelude.{List, ◌≡◌, ℕ, ◌≤◌}
 use Rattle.std.proofs.Common.{le_trans}
 use Rattle.arena.specs.Live.{tree_of}
 use Rattle.formed.specs.LiveOfChecked.{Admitted, checked_of_live}
-use Rattle.promises.specs.After.{DoneCall, admitted, live_after, tree_after, root_after}
+use Rattle.promises.specs.After.{DoneCall}
+use Rattle.promises.proofs.After.{admitted, live_after, tree_after, root_after}
 use Rattle.rules.specs.Call.{words_after}
 use Rattle.theory.proofs.Reduced.{reduced_nodes, reduced_path}
 use Rattle.tree.specs.Form.{checked}

@@ -5,9 +5,11 @@ use Rattle.arena.specs.Live.{tree_of}
 use Rattle.theory.specs.MissingLaws.{HasRow}
 use Rattle.theory.proofs.RowLaws.{assigned_fitting}
 use Rattle.formed.specs.Lines.{checked_exactly}
-use Rattle.promises.specs.Check.{passes_after}
-use Rattle.promises.specs.EvaluationAnswers.{Valued, evaluated_exactly}
-use Rattle.promises.specs.After.{DoneCall, admitted, tree_after}
+use Rattle.promises.proofs.Check.{passes_after}
+use Rattle.promises.specs.EvaluationAnswers.{Valued}
+use Rattle.promises.proofs.EvaluationAnswers.{evaluated_exactly}
+use Rattle.promises.specs.After.{DoneCall}
+use Rattle.promises.proofs.After.{admitted, tree_after}
 use Rattle.rules.specs.Call.{words_after}
 use Rattle.theory.proofs.Inputs.{reduced_inputs}
 use Rattle.theory.proofs.Values.{reduced_value, reduced_size, reduced_free}

@@ -2,7 +2,8 @@
 use Rattle.std.specs.Prelude.{List, ◌≡◌, ℕ}
 use Rattle.std.proofs.Common.{ap, sym, ◌∙◌}
 use Rattle.arena.specs.Live.{tree_of}
-use Rattle.promises.specs.After.{DoneCall, tree_after}
+use Rattle.promises.specs.After.{DoneCall}
+use Rattle.promises.proofs.After.{tree_after}
 use Rattle.rules.specs.Call.{words_after}
 use Rattle.theory.specs.TreeRun.{reduced}
 

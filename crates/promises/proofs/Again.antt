@@ -7,9 +7,10 @@ use Rattle.format.specs.Limits.{node_words, capacity}
 use Rattle.format.specs.Nodes.{node_of, header_of, payload_of}
 use Rattle.formed.specs.LiveOfChecked.{live_of_checked, checked_of_live}
 use Rattle.formed.specs.Lines.{checked_exactly}
-use Rattle.promises.specs.Answers.{simplified_exactly}
-use Rattle.promises.specs.Check.{admitted_after, passes_after}
-use Rattle.promises.specs.After.{DoneCall, live_after, tree_after, words64_after}
+use Rattle.promises.proofs.Answers.{simplified_exactly}
+use Rattle.promises.proofs.Check.{admitted_after, passes_after}
+use Rattle.promises.specs.After.{DoneCall}
+use Rattle.promises.proofs.After.{live_after, tree_after, words64_after}
 use Rattle.promises.specs.Words.{Words64}
 use Rattle.rules.specs.Call.{ran_on, appended_words, simplified_answer, words_after}
 use Rattle.rules.specs.Run.{Out, out, weight}

@@ -1,0 +1,55 @@
+-- Simplify gives each answer exactly where its line of 01 holds and no line before it does. Assumes nothing.
+use Rattle.std.specs.Prelude.{Bool, true, false, List, ◌↔◌, ◌≡◌, refl, ℕ, length}
+use Rattle.std.proofs.Math.Logic.{⊎_elim}
+use Rattle.std.proofs.Common.{subst}
+use borrow.Author.Tests.{leb-true, leb-false, le-leb, lt-leb}
+use Rattle.format.specs.Limits.{capacity}
+use Rattle.formed.specs.Lines.{Passing, checked_exactly}
+use Rattle.promises.proofs.Verdicts.{on_verdict}
+use Rattle.rules.specs.Call.{ran_on, fits, ended, simplified_answer}
+use Rattle.rules.specs.Run.{Out}
+use Rattle.rules.specs.declared.Simplified.{Simplified}
+use Rattle.tree.specs.Form.{checked}
+use Rattle.tree.specs.declared.Evaluated.{Evaluated}
+use Rattle.tree.specs.declared.Verdict.{Verdict}
+use Rattle.promises.specs.Answers.{SimplifyLine}
+
+module _ (words : List ℕ) (count root : ℕ) where
+  abbrev ran : Out
+  ran = ran_on words count root
+
+  passing : checked words count root ≡ Verdict.Passed → Passing words count root
+  passing e = (checked_exactly words count root Verdict.Passed).0 e
+
+  ended_line : checked words count root ≡ Verdict.Passed → (b : Bool) → fits words ran ≡ b → SimplifyLine words count root (ended b ran)
+  ended_line e true f = record {
+    passing = passing e;
+    enough = leb-true (length ran.arena) (capacity (length words)) f;
+    root_is = refl;
+    count_is = refl;
+  }
+  ended_line e false f = (passing e, leb-false (length ran.arena) (capacity (length words)) f)
+
+  answer_line : SimplifyLine words count root (simplified_answer words count root)
+  unfolding simplified_answer
+  answer_line =
+      let v = checked words count root in
+      ⊎_elim (λ on. rw on.simplify_is (ended_line on.passed_is (fits words ran) refl))
+      (λ stop. rw stop.simplify_is (stop.not_passed, (checked_exactly words count root v).0 refl))
+      (on_verdict v (ended (fits words ran) ran) Evaluated.TopReachable)
+
+  line_answer : (answer : Simplified) → SimplifyLine words count root answer → simplified_answer words count root ≡ answer
+  unfolding simplified_answer
+  line_answer (Simplified.Done root' m) l =
+      let room = le-leb (length ran.arena) (capacity (length words)) (rw l.count_is l.enough) in
+      rw ((checked_exactly words count root Verdict.Passed).1 l.passing, room, l.root_is, l.count_is)
+  line_answer (Simplified.Refused v) l =
+      rw ((checked_exactly words count root v).1 l.1)
+      (⊎_elim (λ on. absurd (l.0 on.passed_is)) (λ stop. stop.simplify_is)
+      (on_verdict v (ended (fits words ran) ran) Evaluated.TopReachable))
+  line_answer Simplified.NoRoom l =
+      rw ((checked_exactly words count root Verdict.Passed).1 l.0, lt-leb (length ran.arena) (capacity (length words)) l.1)
+
+  -- DEMAND 1 and 01's table of answers: 7 exactly if the check passes and the run has more nodes than fit
+  pub simplified_exactly : (answer : Simplified) → (simplified_answer words count root ≡ answer) ↔ SimplifyLine words count root answer
+  simplified_exactly answer = (λ e. subst (SimplifyLine words count root) e answer_line, line_answer answer)
