@@ -1,5 +1,5 @@
 /* (x - 5) + 3 in one byte becomes x - 2: prints number, place, root and count, `0 0 6 7`.
- * In the repository's root, after `rt staticlib simplifier`:
+ * In the repository's root, after `tools/staticlib`:
  *   gcc -Iinclude include/example.c target/staticlib/libsimplifier.a -o target/example */
 #include <inttypes.h>
 #include <stdio.h>

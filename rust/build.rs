@@ -12,7 +12,7 @@ fn main() {
     println!("cargo::rerun-if-changed={}", archive.display());
     if !archive.exists() {
         println!(
-            "cargo::error=no {}: `rt staticlib simplifier` in the repository's root makes it",
+            "cargo::error=no {}: `tools/staticlib` in the repository's root makes it",
             archive.display()
         );
     }

@@ -8,7 +8,7 @@
 set -eu
 cd "$(dirname "$0")/../.."
 library=$(cd "${SANTOFUNYE_LIB:-target/staticlib}" 2>/dev/null && pwd || true)/libsimplifier.a
-[ -f "$library" ] || { echo "no libsimplifier.a: 'rt staticlib simplifier' in the repository's root makes it" >&2; exit 1; }
+[ -f "$library" ] || { echo "no libsimplifier.a: 'tools/staticlib' in the repository's root makes it" >&2; exit 1; }
 cd oracle
 seconds=${1:-3600}
 [ $# -eq 0 ] || shift

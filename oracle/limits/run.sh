@@ -1,6 +1,6 @@
 #!/usr/bin/env bash
 # The limits through the exports in a stack of 1 MB, the smallest stack that they run in, and nanoseconds a node.
-# Needs target/staticlib/libsimplifier.a (rt staticlib simplifier) and gcc.
+# Needs target/staticlib/libsimplifier.a (tools/staticlib) and gcc.
 set -eu
 cd "$(dirname "$0")"
 root=../..

@@ -8,6 +8,7 @@ fn wide(byte: u8) -> u64
     byte as u64
 }
 
+#[tactic(auto, using(crate::specs::Bytes::two_of_bytes))]
 pub fn two_at(bytes: &[u8], at: usize) -> u64
     requires { at + 1 < length bytes.now }
     ensures { (result ≡ number_at bytes.now at 2) × (result < 2 ^ 16) }
@@ -15,6 +16,7 @@ pub fn two_at(bytes: &[u8], at: usize) -> u64
     wide(bytes[at]) * 0x100 + wide(bytes[at + 1])
 }
 
+#[tactic(auto, using(crate::specs::Bytes::four_of_twos))]
 fn four_at(bytes: &[u8], at: usize) -> u64
     requires { at + 3 < length bytes.now }
     ensures { (result ≡ number_at bytes.now at 4) × (result < 2 ^ 32) }
@@ -22,6 +24,7 @@ fn four_at(bytes: &[u8], at: usize) -> u64
     two_at(bytes, at) * 0x1_0000 + two_at(bytes, at + 2)
 }
 
+#[tactic(auto, using(crate::specs::Bytes::eight_of_fours))]
 pub fn eight_at(bytes: &[u8], at: usize) -> u64
     requires { at + 7 < length bytes.now }
     ensures { result ≡ number_at bytes.now at 8 }

@@ -31,6 +31,7 @@ pub enum Head {
 }
 
 // The head of a file for an arena of at most `most` nodes.
+#[tactic(auto, unfolding(crate::specs::File::head_of))]
 fn read_head(bytes: &[u8], most: usize) -> Head
     ensures { result ≡ head_of bytes.now most }
 {
@@ -49,6 +50,7 @@ fn read_head(bytes: &[u8], most: usize) -> Head
 }
 
 // Lays the file's first n words after its head over the start of the words.
+#[tactic(auto, using(crate::specs::FileLaws::lay_none, crate::specs::FileLaws::lay_more))]
 fn lay(bytes: &[u8], n: usize, words: &mut [u64])
     requires { (head_bytes + word_bytes * n ≤ length bytes.now) × (n ≤ length words.old) }
     ensures { words.new ≡ words_from bytes.now head_bytes n ++ drop n words.old }
@@ -61,6 +63,7 @@ fn lay(bytes: &[u8], n: usize, words: &mut [u64])
 }
 
 // The answer to a file, worked out in the lent words. They are an arena of as many nodes as they hold.
+#[tactic(auto, using(crate::specs::FileLaws::file_fits))]
 pub fn answer(bytes: &[u8], words: &mut [u64]) -> SimplifyReply
     ensures answer { result ≡ file_reply bytes.now words.old }
     ensures left { words.new ≡ words_after_file bytes.now words.old }

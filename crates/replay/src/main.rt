@@ -1,11 +1,15 @@
 // Runs the program's answer on every recorded file, and prints a line for each.
 #![tactic(auto)]
 
-ghost use Rattle.std.specs.Prelude.{◌≡◌};
+ghost use Rattle.std.specs.Prelude.{◌≡◌, ◌<◌, true, length, IfOk};
 ghost use Rattle.file.specs.File.{program_reply};
 
 use file::PROGRAM_WORDS;
 use simplifier::exports::SimplifyReply;
+use std::{fs, io};
+
+// How many bytes a record's length takes.
+const LENGTH_BYTES: usize = 2;
 
 fn answer(bytes: &[u8]) -> SimplifyReply
     ensures { result ≡ program_reply bytes.now }
@@ -14,39 +18,30 @@ fn answer(bytes: &[u8]) -> SimplifyReply
     file::answer(bytes, &mut words)
 }
 
-// Reads a record, two bytes of length and then a file of that length, and prints the answer to it. False where there is no whole record.
-fn replay_one(fd: i32, buffer: &mut [u8]) -> bool {
-    let mut length = [0u8; 2];
-    if io::read_full(fd, &mut length) < 2 {
-        return false;
+// Takes the first record off, two bytes of length and then a file of that length, and prints the answer to it. False where there is no whole record.
+fn replay_one(rt: &impl Print, records: &mut &[u8]) -> io::Result<bool>
+    ensures { IfOk result (λ is_whole. is_whole ≡ true → length records.new.now < length records.old.now) }
+{
+    if records.len() < LENGTH_BYTES {
+        return Ok(false);
     }
-    let size = file::bytes::two_at(&length, 0) as usize;
-    if buffer.len() < size {
-        return false;
+    let (length, rest) = records.split_at(LENGTH_BYTES);
+    let size = file::bytes::two_at(length, 0) as usize;
+    if rest.len() < size {
+        return Ok(false);
     }
-    if io::read_full(fd, &mut buffer[..size]) < size {
-        return false;
-    }
-    file::line::print(answer(&buffer[..size]));
-    true
+    let (bytes, after) = rest.split_at(size);
+    file::line::print(rt, answer(bytes))?;
+    *records = after;
+    Ok(true)
 }
 
-// The loop counts its turns down from a number that no run uses up, since nothing says that a file ends.
-fn replay_all(fd: i32, buffer: &mut [u8]) {
-    let mut turns = u64::MAX;
-    while turns > 0 && replay_one(fd, buffer) {
-        turns -= 1;
-    }
+fn replay_all(rt: &impl Print, records: &[u8]) -> io::Result<()> {
+    let mut rest = records;
+    while replay_one(rt, &mut rest)? {}
+    Ok(())
 }
 
-fn main() {
-    let path = b"vectors";
-    let fd = os::open_read(path);
-    if fd < 0 {
-        os::fail(path);
-        return;
-    }
-    let mut buffer = io::large_buffer();
-    replay_all(fd, &mut buffer);
-    libc::close(fd);
+fn main(rt: HostRuntime) -> io::Result<()> {
+    replay_all(&rt, &fs::read(&rt, "vectors")?)
 }

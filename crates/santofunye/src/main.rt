@@ -5,8 +5,12 @@ ghost use Rattle.std.specs.Prelude.{◌≡◌};
 ghost use Rattle.file.specs.File.{program_reply};
 
 use file::PROGRAM_WORDS;
-use libc::STDIN_FILENO;
 use simplifier::exports::SimplifyReply;
+use std::io;
+use std::io::Read;
+
+// How many bytes are read at most: more than the longest good file has, so that a longer one is seen to be bad.
+const MOST_BYTES: u64 = 65536;
 
 fn answer(bytes: &[u8]) -> SimplifyReply
     ensures { result ≡ program_reply bytes.now }
@@ -15,9 +19,8 @@ fn answer(bytes: &[u8]) -> SimplifyReply
     file::answer(bytes, &mut words)
 }
 
-// The buffer is longer than the longest good file, so that a longer one is seen to be bad.
-fn main() {
-    let mut buffer = io::large_buffer();
-    let n = io::read_full(STDIN_FILENO, &mut buffer);
-    file::line::print(answer(&buffer[..n]));
+fn main(rt: HostRuntime) -> io::Result<()> {
+    let mut bytes = Vec::new(rt.alloc());
+    rt.reader().take(MOST_BYTES).read_to_end(&mut bytes)?;
+    file::line::print(&rt, answer(&bytes))
 }

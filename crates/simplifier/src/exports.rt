@@ -1,4 +1,4 @@
-// The calls for C and Rust: 01's numbers, places and values, in structs.
+// The calls for Rust, and for C through the crate simplifier_c: numbers, places and values, in structs.
 ghost use Rattle.std.specs.Prelude.{◌≡◌};
 ghost use Rattle.tree.specs.Form.{checked};
 ghost use Rattle.tree.specs.Rows.{evaluated};
@@ -131,28 +131,20 @@ fn evaluate_reply(answer: Evaluated) -> EvaluateReply
     }
 }
 
-#[unsafe(no_mangle)]
-pub extern "C" fn santofunye_check(words: &[u64], count: usize, root: usize) -> CheckReply
+pub fn santofunye_check(words: &[u64], count: usize, root: usize) -> CheckReply
     ensures { result ≡ check_reply (checked words.now count root) }
 {
     check_reply(calls::check(words, count, root))
 }
 
-#[unsafe(no_mangle)]
-pub extern "C" fn santofunye_simplify(words: &mut [u64], count: usize, root: usize) -> SimplifyReply
+pub fn santofunye_simplify(words: &mut [u64], count: usize, root: usize) -> SimplifyReply
     ensures answer { result ≡ simplify_reply (simplified_answer words.old count root) count }
     ensures left { words.new ≡ words_after words.old count root }
 {
     simplify_reply(calls::simplify(words, count, root), count as u64)
 }
 
-#[unsafe(no_mangle)]
-pub extern "C" fn santofunye_evaluate(
-    words: &[u64],
-    count: usize,
-    root: usize,
-    rows: &[u64],
-) -> EvaluateReply
+pub fn santofunye_evaluate(words: &[u64], count: usize, root: usize, rows: &[u64]) -> EvaluateReply
     ensures { result ≡ evaluate_reply (evaluated words.now count root rows.now) }
 {
     evaluate_reply(calls::evaluate(words, count, root, rows))
