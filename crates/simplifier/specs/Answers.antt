@@ -5,7 +5,6 @@ use Rattle.rules.specs.Call.{ran_on, fits, ended, after_check, words_left, simpl
 use Rattle.rules.specs.Run.{Out}
 use Rattle.rules.specs.declared.Simplified.{Simplified}
 use Rattle.tree.specs.Form.{checked}
-use Rattle.tree.specs.Rows.{passed}
 use Rattle.tree.specs.declared.Verdict.{Verdict}
 
 module _ (words : List ℕ) (count root : ℕ) where
