@@ -1,12 +1,15 @@
 // Runs the program's answer on every recorded file, and prints a line for each.
 #![tactic(auto)]
 
-ghost use Rattle.std.specs.Prelude.{◌≡◌, ◌<◌, true, length, IfOk};
+ghost use Rattle.std.specs.Prelude.{◌≡◌};
 ghost use Rattle.file.specs.File.{program_reply};
 
 use file::PROGRAM_WORDS;
+use file::input::{BUFFER_BYTES, read_full};
 use simplifier::exports::SimplifyReply;
-use std::{fs, io};
+use std::fs::File;
+use std::io;
+use std::io::Read;
 
 // How many bytes a record's length takes.
 const LENGTH_BYTES: usize = 2;
@@ -18,30 +21,34 @@ fn answer(bytes: &[u8]) -> SimplifyReply
     file::answer(bytes, &mut words)
 }
 
-// Takes the first record off, two bytes of length and then a file of that length, and prints the answer to it. False where there is no whole record.
-fn replay_one(rt: &impl Print, records: &mut &[u8]) -> io::Result<bool>
-    ensures { IfOk result (λ is_whole. is_whole ≡ true → length records.new.now < length records.old.now) }
-{
-    if records.len() < LENGTH_BYTES {
+// Reads a record, two bytes of length and then a file of that length, and prints the answer to it. False where there is no whole record.
+fn replay_one(rt: &impl Print, records: &mut impl Read, buffer: &mut [u8]) -> io::Result<bool> {
+    let mut length = [0u8; LENGTH_BYTES];
+    if read_full(records, &mut length)? < LENGTH_BYTES {
         return Ok(false);
     }
-    let (length, rest) = records.split_at(LENGTH_BYTES);
-    let size = file::bytes::two_at(length, 0) as usize;
-    if rest.len() < size {
+    let size = file::bytes::two_at(&length, 0) as usize;
+    if buffer.len() < size {
         return Ok(false);
     }
-    let (bytes, after) = rest.split_at(size);
-    file::line::print(rt, answer(bytes))?;
-    *records = after;
+    if read_full(records, &mut buffer[..size])? < size {
+        return Ok(false);
+    }
+    file::line::print(rt, answer(&buffer[..size]))?;
     Ok(true)
 }
 
-fn replay_all(rt: &impl Print, records: &[u8]) -> io::Result<()> {
-    let mut rest = records;
-    while replay_one(rt, &mut rest)? {}
+// The loop counts its turns down from a number that no run uses up, since nothing says that a file ends.
+fn replay_all(rt: &impl Print, records: &mut impl Read, buffer: &mut [u8]) -> io::Result<()> {
+    let mut turns = u64::MAX;
+    while turns > 0 && replay_one(rt, records, buffer)? {
+        turns -= 1;
+    }
     Ok(())
 }
 
 fn main(rt: HostRuntime) -> io::Result<()> {
-    replay_all(&rt, &fs::read(&rt, "vectors")?)
+    let mut records = File::open(&rt, "vectors")?;
+    let mut buffer = [0u8; BUFFER_BYTES];
+    replay_all(&rt, &mut records, &mut buffer)
 }

@@ -5,12 +5,9 @@ ghost use Rattle.std.specs.Prelude.{◌≡◌};
 ghost use Rattle.file.specs.File.{program_reply};
 
 use file::PROGRAM_WORDS;
+use file::input::{BUFFER_BYTES, read_full};
 use simplifier::exports::SimplifyReply;
 use std::io;
-use std::io::Read;
-
-// How many bytes are read at most: more than the longest good file has, so that a longer one is seen to be bad.
-const MOST_BYTES: u64 = 65536;
 
 fn answer(bytes: &[u8]) -> SimplifyReply
     ensures { result ≡ program_reply bytes.now }
@@ -19,8 +16,9 @@ fn answer(bytes: &[u8]) -> SimplifyReply
     file::answer(bytes, &mut words)
 }
 
+// The buffer is longer than the longest good file, so that a longer one is seen to be bad.
 fn main(rt: HostRuntime) -> io::Result<()> {
-    let mut bytes = Vec::new(rt.alloc());
-    rt.reader().take(MOST_BYTES).read_to_end(&mut bytes)?;
-    file::line::print(&rt, answer(&bytes))
+    let mut buffer = [0u8; BUFFER_BYTES];
+    let n = read_full(&mut rt.reader(), &mut buffer)?;
+    file::line::print(&rt, answer(&buffer[..n]))
 }

@@ -1,5 +1,5 @@
 -- What the writer may append: the nodes that an action makes are new to the arena. Assumes nothing.
-use Rattle.std.specs.Prelude.{Bool, true, List, [], ◌∷◌, ◌++◌, ◌≡◌, ℕ, ◌+◌, ◌^◌, ◌≤◌, ◌<◌, length}
+use Rattle.std.specs.Prelude.{Bool, true, List, [], ◌∷◌, ◌++◌, ◌≡◌, ℕ, ◌^◌, ◌≤◌, ◌<◌, length}
 use Rattle.std.proofs.Common.{arith}
 use Rattle.acts.specs.Operated.{UnaryOver, BinaryOver}
 use Rattle.arena.specs.Live.{Live, New, tree_of}
@@ -20,7 +20,7 @@ use Rattle.theory.proofs.Values.{bin_act_sized, un_act_sized}
 use Rattle.theory.specs.Visits.{carried}
 use Rattle.tree.specs.Arena.{build, nodes_of, tree_at, Ordered}
 use Rattle.tree.specs.ArenaLaws.{length-nodes_of, length_appended, appended_extends, tree_stays, tree_appended}
-use Rattle.tree.specs.Form.{is_size, Sized, sized}
+use Rattle.tree.specs.Form.{is_size, Sized}
 use Rattle.tree.specs.Tree.{unary, binary}
 
 -- an operator's node over a, or over a and b

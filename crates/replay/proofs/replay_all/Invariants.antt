@@ -1,6 +1,5 @@
--- The loop over the records ends: each turn leaves fewer bytes.
-use Rattle.std.proofs.Common.{length}
+-- Each turn is one fewer. Assumes nothing.
 use Rattle.replay.proofs.replay_all.Given as goal
 
-abbrev pub decreases-loop : goal.decreases-loop
-decreases-loop g l = length l.rest
+abbrev pub decreases-loop-turns : goal.decreases-loop-turns
+decreases-loop-turns g l = l.turns

@@ -1,7 +1,6 @@
 -- Each call of the cycle ends as the run's definition says, and calls only what is lighter. Assumes nothing.
-use Rattle.std.proofs.Common.{◌||◌, true, false, ap, refl, sym, ◌∙◌, arith}
+use Rattle.std.proofs.Common.{◌||◌, true, false, ap, refl, sym, arith}
 use Rattle.arena.specs.Live.{tree_of}
-use Rattle.format.specs.declared.Node.{Node}
 use Rattle.rules.specs.Run.{is_sub}
 use Rattle.settle.specs.Chains.{unary_child, unary_lighter, unary_unfinished, unary_ended, binary_children, right_lighter, binary_lighter, left_unfinished, right_unfinished, binary_ended}
 use Rattle.run.specs.Ready.{one_at, two_at, top_read, one_ready, right_child, two_ready, ended_leaf, child_is_itself, one_child_ready, left_child_ready, right_child_ready}
@@ -195,9 +194,14 @@ dispatch::visit_two-after_two-requires t c =
     let left = c.in-Done.ensures in
     let right = c.in-Done-child.ensures in
     let lighter = binary_lighter c.requires.live c.args.i at.0 c.args.op c.args.size c.args.j c.args.k at.1 c.child.new.words c.in-Done.a c.in-Done.m left
-        c.child-in-Done.new.words c.in-Done-child.b c.in-Done-child.n right in
-    (omega arith, (right.ran.live, two_ready c.requires.live c.args.i at.0 c.args.op c.args.size c.args.j c.args.k at.1 c.child.new.words c.in-Done.a c.in-Done.m left
-    c.child-in-Done.new.words c.in-Done-child.b c.in-Done-child.n right))
+    c.child-in-Done.new.words c.in-Done-child.b c.in-Done-child.n right in (
+      omega arith,
+      (
+        right.ran.live,
+        two_ready c.requires.live c.args.i at.0 c.args.op c.args.size c.args.j c.args.k at.1 c.child.new.words c.in-Done.a c.in-Done.m left
+            c.child-in-Done.new.words c.in-Done-child.b c.in-Done-child.n right,
+      ),
+    )
 
 pub dispatch::visit_two-returns-in-NoRoom : goal.dispatch::visit_two-returns-in-NoRoom
 dispatch::visit_two-returns-in-NoRoom t c =

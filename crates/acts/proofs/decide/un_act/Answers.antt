@@ -1,5 +1,4 @@
 -- The decision on a node of one child. Assumes nothing.
-use Rattle.std.proofs.Common.{sym}
 use Rattle.acts.specs.Decided.{sext_fits, neg_fits}
 use Rattle.arena.specs.LiveLaws.{size_at}
 use Rattle.acts.proofs.decide.un_act.Goals as goal
