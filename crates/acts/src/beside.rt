@@ -2,7 +2,7 @@
 ghost use Rattle.std.specs.Prelude.{◌≡◌};
 ghost use Rattle.arith.specs.Operands.{Size};
 ghost use Rattle.manual.specs.Operations.{int_sub};
-ghost use Rattle.rules.specs.Rules.{rule_of, moved as movedBy};
+ghost use Rattle.rules.specs.Rules.{rule_of, moved as moved_by};
 
 use crate::add::add_beside;
 use crate::flag::flag_beside;
@@ -17,7 +17,7 @@ use signed::wrapped_difference;
 
 // e's left child moved by the difference a - n, wrapped and read as an i64: a negative one goes the other way by its amount.
 pub fn moved(a: u64, n: u64, negative: Bin, otherwise: Bin) -> Beside
-    ensures { result ≡ movedBy (int_sub 64 a n) negative otherwise }
+    ensures { result ≡ moved_by (int_sub 64 a n) negative otherwise }
 {
     let difference = wrapped_difference(a, n);
     if difference.negative {

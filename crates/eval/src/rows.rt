@@ -1,7 +1,7 @@
 // Rows of values for inputs: three words each, the two words of an input and then its value.
 ghost use Rattle.std.specs.Prelude.{◌≡◌, ◌+◌, ◌*◌, ◌<◌, length};
 ghost use Rattle.eval.specs.Answers.{place_of, found_of};
-ghost use Rattle.tree.specs.Rows.{row_words, good_row, bad_row, keyed as keyedBy, found};
+ghost use Rattle.tree.specs.Rows.{row_words, good_row, bad_row, keyed as keyed_by, found};
 
 use form::sizes;
 use words::fields;
@@ -53,7 +53,7 @@ pub fn bad_row(rows: &[u64]) -> Place
 
 fn keyed(rows: &[u64], j: usize, word: u64, payload: u64) -> bool
     requires { row_words * j + 2 < length rows.now }
-    ensures { result ≡ keyedBy rows.now j word payload }
+    ensures { result ≡ keyed_by rows.now j word payload }
 {
     (rows[ROW_WORDS * j] == word) & (rows[ROW_WORDS * j + 1] == payload)
 }

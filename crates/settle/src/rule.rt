@@ -1,6 +1,6 @@
 // A rule on a node whose children are simplified and not Top: its decision, carried out.
 ghost use Rattle.std.specs.Prelude.{◌≡◌};
-ghost use Rattle.theory.specs.Visits.{redoes as redoesAct};
+ghost use Rattle.theory.specs.Visits.{redoes as redoes_act};
 ghost use Rattle.arena.specs.Live.{Live};
 ghost use Rattle.arena.specs.Ended.{Ended};
 ghost use Rattle.settle.specs.Visits.{OneAt, TwoAt, OneRan, TwoRan, one_whole, two_whole, outcome_of};
@@ -23,7 +23,7 @@ pub enum Outcome {
 }
 
 fn redoes(act: Act) -> bool
-    ensures { result ≡ redoesAct act }
+    ensures { result ≡ redoes_act act }
 {
     match act {
         Act::Keep => false,
