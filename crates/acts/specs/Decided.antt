@@ -17,7 +17,8 @@ use Rattle.rules.specs.declared.Act.{Act}
 use Rattle.rules.specs.declared.Constants.{Constants}
 use Rattle.rules.specs.declared.View.{View}
 use Rattle.theory.proofs.Seen.{constant_shows}
-use Rattle.theory.proofs.Sizes.{size_bounds, un_is_size, bin_is_size, child_allowed, free_is_top}
+use Rattle.theory.specs.Sizes.{size_bounds, un_is_size, bin_is_size, free_is_top}
+use Rattle.theory.proofs.Sizes.{child_allowed}
 use Rattle.tree.specs.Form.{is_size, bin_sizing, Sized}
 use Rattle.tree.specs.Meaning.{Assignment, Fitting as FittingValues, value}
 use Rattle.tree.specs.Tree.{Tree, binary, size, same}

@@ -10,7 +10,8 @@ use Rattle.format.proofs.KindRules.{un_number_known, bin_number_known}
 use Rattle.format.specs.Kinds.{shape_of, un_number, bin_number}
 use Rattle.format.specs.Limits.{header_at, payload_at}
 use Rattle.format.specs.Nodes.{node_of, shaped, header_of, payload_of, Narrow}
-use Rattle.format.proofs.NodesOfWords.{field_narrow, narrow_of_words}
+use Rattle.format.specs.NodesOfWords.{field_narrow}
+use Rattle.format.proofs.NodesOfWords.{narrow_of_words}
 use Rattle.format.specs.Truth.{and_left, and_right, not_both}
 use Rattle.format.specs.declared.Node.{Node}
 use Rattle.format.specs.declared.Shape.{Shape}

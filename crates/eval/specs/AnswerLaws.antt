@@ -7,8 +7,8 @@ use Rattle.arena.specs.Live.{tree_of}
 use Rattle.arena.specs.LiveLaws.{live_ordered, in_arena, tree_of_node, below_at}
 use Rattle.arith.specs.Operands.{Extension}
 use Rattle.eval.specs.Answers.{found_of, input_answer, answered, over_one, over_two, answer_at, OperandFits, OperandsFit, Evaluable}
-use Rattle.theory.proofs.MissingLaws.{missing_eq}
-use Rattle.theory.proofs.RowLaws.{assigned_fitting}
+use Rattle.theory.specs.MissingLaws.{missing_eq}
+use Rattle.theory.specs.RowLaws.{assigned_fitting}
 use Rattle.values.specs.SizedOperands.{unary_operand, binary_operands}
 use Rattle.eval.specs.declared.rows.Found.{Found}
 use Rattle.eval.specs.declared.walk.Answer.{Answer}

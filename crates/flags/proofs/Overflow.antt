@@ -10,8 +10,8 @@ use lib.Bits.{bit_and, bit_xor, and_shr, xor_shr}
 use lib.IntN.{ℤ, pos, negsuc, sub_ℕ, ◌+ℤ◌, ◌-ℤ◌}
 use lib.Pow.{pow_mono, pow_pos}
 use lib.Signed.{mag}
-use Rattle.manual.proofs.Fits.{int_add_fits, int_sub_fits}
-use Rattle.manual.proofs.Halves.{below_or, two_halves, top_bit_lower, top_bit_upper, signed_lower, signed_upper}
+use Rattle.manual.specs.Fits.{int_add_fits, int_sub_fits}
+use Rattle.manual.specs.Halves.{below_or, two_halves, top_bit_lower, top_bit_upper, signed_lower, signed_upper}
 use Rattle.manual.specs.Operations.{int_add, int_sub, int_carry, int_scarry, int_sborrow, signed, unfit}
 
 -- The carry, from the sum at 64 bits

@@ -7,7 +7,7 @@ use Rattle.form.specs.Children.{children_of, Within, nodes_at, path_at}
 use Rattle.form.specs.Paths.{left_over, no_budget, no_path, over_leaf, over_one, over_two, some_left, none_left}
 use Rattle.form.specs.declared.limits.Children.{Children}
 use Rattle.format.specs.Limits.{max_path, max_unfolded}
-use Rattle.theory.proofs.Falls.{path_positive}
+use Rattle.theory.specs.Falls.{path_positive}
 use Rattle.tree.specs.Arena.{node_at}
 use Rattle.tree.specs.Form.{limited}
 use Rattle.tree.specs.Tree.{Tree, nodes, path}

@@ -1,8 +1,8 @@
 -- A node's words give the node back, and words that leave unused fields zero are given back by their node.
 -- Assumes nothing.
-use Rattle.std.specs.Prelude.{◌≡◌, refl, false, ℕ, ◌/◌, ◌^◌, ◌<◌, ◌≤◌}
-use Rattle.std.proofs.Common.{ap, ◌∙◌, sym, mod-lt, arith, lit<, pow_pos}
-use Rattle.format.specs.Header.{field, kind_of, size_of, left_of, right_of, space_of, header}
+use Rattle.std.specs.Prelude.{◌≡◌, refl, false, ℕ, ◌<◌, ◌≤◌}
+use Rattle.std.proofs.Common.{ap, ◌∙◌, sym, arith, lit<}
+use Rattle.format.specs.Header.{kind_of, size_of, left_of, right_of, space_of, header}
 use Rattle.format.proofs.Header.{fields_of_header, header_of_fields}
 use Rattle.format.specs.Kinds.{shape_of, kind_count, un_number, bin_number}
 use Rattle.format.specs.KindRules.{number_of, arity_of, uses_space, uses_payload}
@@ -10,7 +10,7 @@ use Rattle.format.proofs.KindRules.{row_ruled, shape_of_unknown, shape_by_number
 use Rattle.format.specs.Nodes.{shaped, node_of, header_of, payload_of, Narrow}
 use Rattle.format.specs.declared.Node.{Node}
 use Rattle.format.specs.declared.Shape.{Shape}
-use Rattle.format.specs.NodesOfWords.{Unused}
+use Rattle.format.specs.NodesOfWords.{Unused, field_narrow}
 
 -- a word of a shape's number reads as a node of that shape
 pub node_of_shape : (shape : Shape) (word payload : ℕ) → kind_of word ≡ number_of shape →
@@ -44,10 +44,6 @@ node_of_header (Node.Binary op size left right) h =
     let known = bin_number_known op in
     let f = fields_of_header (bin_number op) size left right 0 (omega arith) in
     node_of_shape (Shape.Binary op) (header (bin_number op) size left right 0) 0 f.kind_is ∙ cc
-
--- a field is as narrow as its bits
-pub field_narrow : (word at bits : ℕ) → field word at bits < 2 ^ bits
-field_narrow word at bits = mod-lt (word / 2 ^ at) (pow_pos bits)
 
 narrow_of_shape : (shape : Shape) (word payload : ℕ) → Narrow (shaped shape word payload)
 narrow_of_shape Shape.Top word payload = tt

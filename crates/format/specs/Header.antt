@@ -1,4 +1,5 @@
 -- A node's first word, and its fields. Assumes nothing.
+-- The laws that rest on what an edit in must-fail/ changes are in proofs/Header.antt.
 use Rattle.std.specs.Prelude.{◌≡◌, ℕ, ◌+◌, ◌*◌, ◌/◌, ◌%◌, ◌^◌, ◌<◌}
 
 -- `bits` bits of a word, from bit `at` up

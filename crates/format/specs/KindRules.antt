@@ -1,4 +1,5 @@
 -- What the table of kinds says of a shape: its number, its children and the fields that it uses. Assumes nothing.
+-- The laws that rest on what an edit in must-fail/ changes are in proofs/KindRules.antt.
 use Rattle.std.specs.Prelude.{◌≡◌, List, map, Bool, true, false, ℕ}
 use Rattle.format.specs.Kinds.{Kind, kinds, un_number, bin_number}
 use Rattle.format.specs.declared.Row.{Row}

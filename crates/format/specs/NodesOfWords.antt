@@ -1,9 +1,15 @@
 -- A node's words give the node back, and words that leave unused fields zero are given back by their node.
 -- Assumes nothing.
-use Rattle.std.specs.Prelude.{◌≡◌, false, ℕ, ◌^◌, ◌<◌}
-use Rattle.format.specs.Header.{kind_of, size_of, left_of, right_of, space_of}
+-- The laws that rest on what an edit in must-fail/ changes are in proofs/NodesOfWords.antt.
+use Rattle.std.specs.Prelude.{◌≡◌, false, ℕ, ◌/◌, ◌^◌, ◌<◌}
+use Rattle.std.proofs.Common.{mod-lt, pow_pos}
+use Rattle.format.specs.Header.{field, kind_of, size_of, left_of, right_of, space_of}
 use Rattle.format.specs.Kinds.{shape_of, row_of, kind_count}
 use Rattle.format.specs.declared.Shape.{Shape}
+
+-- a field is as narrow as its bits
+pub field_narrow : (word at bits : ℕ) → field word at bits < 2 ^ bits
+field_narrow word at bits = mod-lt (word / 2 ^ at) (pow_pos bits)
 
 -- a word of a known kind whose unused fields, with the payload, are zero
 pub record Unused (word payload : ℕ) : Type 0 where

@@ -1,5 +1,3 @@
-pub mod Cuts
 pub mod Fits
 pub mod Halves
 pub mod Laws
-pub mod Rewritings

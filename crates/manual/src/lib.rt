@@ -1,2 +1,2 @@
-// The operations of the P-Code manual, as definitions and laws: see specs/. It has no code.
+// The operations of the P-Code manual, as definitions and laws: see specs/ and proofs/. It has no code.
 #![tactic(auto)]

@@ -12,9 +12,8 @@ use Rattle.formed.specs.LiveOfChecked.{Admitted, live_of_checked}
 use Rattle.formed.specs.Lines.{checked_exactly}
 use Rattle.promises.specs.Answers.{Fitted}
 use Rattle.promises.proofs.Answers.{simplified_exactly}
-use Rattle.promises.proofs.Headers.{narrow_of_sized, header_word, second_or_first}
-use Rattle.promises.specs.Words.{Words64}
-use Rattle.promises.proofs.Words.{appended_length, appended_keeps, appended_leaves, appended_header, appended_payload}
+use Rattle.promises.specs.Headers.{narrow_of_sized, header_word, second_or_first}
+use Rattle.promises.specs.Words.{Words64, appended_length, appended_keeps, appended_leaves, appended_header, appended_payload}
 use Rattle.rules.specs.Call.{ran_on, appended_words, words_after}
 use Rattle.rules.specs.Run.{Out}
 use Rattle.rules.specs.declared.Simplified.{Simplified}

@@ -17,7 +17,7 @@ use Rattle.rules.specs.Run.{Out, out, weight}
 use Rattle.rules.specs.declared.Simplified.{Simplified}
 use Rattle.theory.specs.Normal.{Normal}
 use Rattle.theory.proofs.Reduced.{reduced_normal}
-use Rattle.theory.proofs.Simulation.{run_on_normal}
+use Rattle.theory.specs.Simulation.{run_on_normal}
 use Rattle.tree.specs.Arena.{node_at, nodes_of}
 use Rattle.tree.specs.ArenaLaws.{length-nodes_of, nodes_of_cong}
 use Rattle.tree.specs.Form.{checked}

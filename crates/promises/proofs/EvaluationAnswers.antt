@@ -5,11 +5,12 @@ use Rattle.std.proofs.Math.Option.{Option, some, none}
 use Rattle.std.proofs.Math.Path.{refl, ap}
 use Rattle.std.proofs.Common.{◌∙◌, subst}
 use Rattle.arena.specs.Live.{tree_of}
-use Rattle.theory.proofs.MissingLaws.{nothing_missing}
-use Rattle.theory.proofs.RowLaws.{assigned_fitting}
+use Rattle.theory.specs.MissingLaws.{nothing_missing}
+use Rattle.theory.specs.RowLaws.{assigned_fitting}
 use Rattle.formed.specs.Lines.{Passing, checked_exactly}
-use Rattle.promises.proofs.Evaluation.{evaluation_total, value_fits_size}
-use Rattle.promises.proofs.Verdicts.{on_verdict}
+use Rattle.promises.specs.Evaluation.{value_fits_size}
+use Rattle.promises.proofs.Evaluation.{evaluation_total}
+use Rattle.promises.specs.Verdicts.{on_verdict}
 use Rattle.promises.specs.Words.{Words64}
 use Rattle.rules.specs.declared.Simplified.{Simplified}
 use Rattle.tree.specs.Arena.{nodes_of}

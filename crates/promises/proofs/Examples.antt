@@ -4,8 +4,8 @@ use Rattle.std.proofs.Common.{ap, sym, ◌∙◌, arith, ltb-true, lit≤}
 use Rattle.std.proofs.Math.Decide.{dec_lt, ℕ_discrete}
 use Rattle.std.proofs.Math.ListN.{get_or-append, get_or-eq_default}
 use Rattle.arena.specs.Live.{tree_of}
-use Rattle.theory.proofs.MissingLaws.{nothing_missing}
-use Rattle.theory.proofs.RowLaws.{assigned_fitting}
+use Rattle.theory.specs.MissingLaws.{nothing_missing}
+use Rattle.theory.specs.RowLaws.{assigned_fitting}
 use Rattle.format.specs.Kinds.{shape_of, row_of}
 use Rattle.format.specs.Nodes.{node_of}
 use Rattle.format.specs.Table.{every, at_line}

@@ -2,17 +2,11 @@ pub mod After
 pub mod Again
 pub mod Alike
 pub mod Answers
-pub mod Bench
 pub mod Check
 pub mod Evaluation
 pub mod EvaluationAnswers
 pub mod Examples
-pub mod FirstRows
-pub mod Headers
 pub mod Promises
 pub mod Room
-pub mod Steps
 pub mod Tops
 pub mod Values
-pub mod Verdicts
-pub mod Words

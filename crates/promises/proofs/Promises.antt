@@ -1,22 +1,23 @@
--- What the calls promise: the theorems of the statements that specs/Promises.antt gathers. What each rests on is in the files beside
--- this one. Assumes nothing.
-use Rattle.std.specs.Prelude.{List, map, ◌≡◌, ℕ}
+-- What the calls promise, gathered: every statement that docs/PROMISES.md names, over the definitions `checked`, `evaluated`,
+-- `simplified_answer` and `words_after`. The theorems are in proofs/Promises.antt, from the files beside it. Assumes nothing.
+use Rattle.std.specs.Prelude.{List, ◌≡◌, ℕ}
 use Rattle.arena.specs.Live.{tree_of}
 use Rattle.formed.specs.Lines.{checked_exactly}
 use Rattle.promises.proofs.Again.{stays_anywhere, words_stay_anywhere, again_answer, again_words, again_in_any_slice, again_words_in_any_slice}
 use Rattle.promises.proofs.Alike.{same_tree}
 use Rattle.promises.proofs.Answers.{simplified_exactly}
 use Rattle.promises.proofs.Check.{no_more_nodes, no_longer_path, passes_after}
-use Rattle.promises.proofs.Evaluation.{evaluation_total, value_fits_size}
+use Rattle.promises.specs.Evaluation.{value_fits_size}
+use Rattle.promises.proofs.Evaluation.{evaluation_total}
 use Rattle.promises.proofs.EvaluationAnswers.{evaluated_exactly, answer_fits}
-use Rattle.promises.proofs.FirstRows.{bad_row_is_first, missing_is_first}
+use Rattle.promises.specs.FirstRows.{bad_row_is_first, missing_is_first}
 use Rattle.promises.specs.After.{DoneCall}
 use Rattle.promises.proofs.After.{with_room, nodes_after}
-use Rattle.promises.proofs.Room.{refused_alters_nothing, root_and_count, no_value, no_room_clears, done_appends, done_count, words64_always}
-use Rattle.promises.proofs.Steps.{more_steps_answer, more_steps_words}
+use Rattle.promises.specs.Room.{refused_alters_nothing, root_and_count, no_value}
+use Rattle.promises.proofs.Room.{no_room_clears, done_appends, done_count, words64_always}
+use Rattle.promises.specs.Steps.{more_steps_answer, more_steps_words}
 use Rattle.promises.proofs.Tops.{top_exactly, one_constant}
 use Rattle.promises.proofs.Values.{same_size, same_value, same_evaluation}
-use Rattle.rules.specs.Bench.{seen, expected, bench, bench_holds}
 use Rattle.rules.specs.Call.{simplified_answer, words_after}
 use Rattle.tree.specs.Arena.{nodes_of}
 use Rattle.tree.specs.Rows.{evaluated}
@@ -73,7 +74,3 @@ pub alike : {words words₂ : List ℕ} {count root root' m count₂ root₂ roo
     DoneCall words count root root' m → DoneCall words₂ count₂ root₂ root₂' m₂ → tree_of count words root ≡ tree_of count₂ words₂ root₂ →
     tree_of m (words_after words count root) root' ≡ tree_of m₂ (words_after words₂ count₂ root₂) root₂'
 alike call call₂ e = same_tree call call₂ e
-
--- 01, examples: P1 to P12
-pub at_the_bench : map seen bench ≡ map expected bench
-at_the_bench = bench_holds

@@ -7,33 +7,10 @@ use Rattle.format.specs.Limits.{node_words, capacity}
 use Rattle.promises.proofs.Answers.{simplified_exactly}
 use Rattle.promises.specs.After.{DoneCall}
 use Rattle.promises.proofs.After.{fitted, grown, room, after_is, after_length, after_kept, header_new, payload_new, words64_after}
-use Rattle.promises.specs.Words.{Words64}
-use Rattle.promises.proofs.Words.{appended_leaves, cleared_length, cleared_keeps, cleared_zero, cleared_leaves}
-use Rattle.rules.specs.Call.{ran_on, simplified_answer, words_after, simplified_number, simplified_root, simplified_count}
+use Rattle.promises.specs.Words.{Words64, appended_leaves, cleared_length, cleared_keeps, cleared_zero, cleared_leaves}
+use Rattle.rules.specs.Call.{ran_on, simplified_answer, words_after}
 use Rattle.rules.specs.declared.Simplified.{Simplified}
-use Rattle.tree.specs.Rows.{evaluated_number, evaluated_value}
-use Rattle.tree.specs.declared.Evaluated.{Evaluated}
-use Rattle.tree.specs.declared.Verdict.{Verdict}
-use Rattle.promises.specs.Room.{Appended, Cleared}
-
--- DEMAND 1: a refusal alters no word
-pub refused_alters_nothing : (words : List ℕ) (count root : ℕ) (v : Verdict) → simplified_answer words count root ≡ Simplified.Refused v →
-    words_after words count root ≡ words
-unfolding words_after
-refused_alters_nothing words count root v e = rw e
-
--- DEMAND 1: and neither a refusal nor no room moves the count; both return root 0, and a refused evaluation value 0
-pub root_and_count : (answer : Simplified) (count : ℕ) → (simplified_number answer ≡ 0 → ⊥) → (simplified_root answer ≡ 0) × (simplified_count answer count ≡ count)
-root_and_count (Simplified.Done root m) count other = absurd (other refl)
-root_and_count (Simplified.Refused v) count other = (refl, refl)
-root_and_count Simplified.NoRoom count other = (refl, refl)
-
-pub no_value : (answer : Evaluated) → (evaluated_number answer ≡ 0 → ⊥) → evaluated_value answer ≡ 0
-no_value (Evaluated.Value v) other = absurd (other refl)
-no_value (Evaluated.Refused v) other = refl
-no_value (Evaluated.BadRow j) other = refl
-no_value Evaluated.TopReachable other = refl
-no_value (Evaluated.InputMissing i) other = refl
+use Rattle.promises.specs.Room.{Appended, Cleared, refused_alters_nothing}
 
 -- DEMAND 1: after "no room" the free words are zero
 pub no_room_clears : (words : List ℕ) (count root : ℕ) → simplified_answer words count root ≡ Simplified.NoRoom →

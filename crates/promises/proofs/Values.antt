@@ -3,7 +3,7 @@ use Rattle.std.specs.Prelude.{false, List, ◌≡◌, ℕ}
 use Rattle.std.proofs.Common.{ap, sym, ◌∙◌}
 use Rattle.arena.specs.Live.{tree_of}
 use Rattle.theory.specs.MissingLaws.{HasRow}
-use Rattle.theory.proofs.RowLaws.{assigned_fitting}
+use Rattle.theory.specs.RowLaws.{assigned_fitting}
 use Rattle.formed.specs.Lines.{checked_exactly}
 use Rattle.promises.proofs.Check.{passes_after}
 use Rattle.promises.specs.EvaluationAnswers.{Valued}

@@ -1,4 +1,5 @@
 -- What a call of simplify that was done leaves: the run's nodes, in words that are live and of 64 bits. Assumes nothing.
+-- The laws that rest on what an edit in must-fail/ changes are in proofs/After.antt.
 use Rattle.std.specs.Prelude.{List, ◌≡◌, ℕ}
 use Rattle.promises.specs.Words.{Words64}
 use Rattle.rules.specs.Call.{simplified_answer}

@@ -1,4 +1,5 @@
 -- Simplify gives each answer exactly where its line of 01 holds and no line before it does. Assumes nothing.
+-- The laws that rest on what an edit in must-fail/ changes are in proofs/Answers.antt.
 use Rattle.std.specs.Prelude.{List, ◌≡◌, ℕ, ◌≤◌, ◌<◌, length}
 use Rattle.format.specs.Limits.{capacity}
 use Rattle.formed.specs.Lines.{Passing, Line}

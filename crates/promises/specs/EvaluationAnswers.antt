@@ -1,4 +1,5 @@
 -- Evaluation gives each answer exactly where its line of 01 holds and no line before it does. Assumes nothing.
+-- The laws that rest on what an edit in must-fail/ changes are in proofs/EvaluationAnswers.antt.
 use Rattle.std.specs.Prelude.{true, false, List, ◌≡◌, ℕ}
 use Rattle.std.proofs.Math.Option.{some, none}
 use Rattle.arena.specs.Live.{tree_of}

@@ -1,6 +1,6 @@
 -- What the calls promise, gathered: every statement that docs/PROMISES.md names, over the definitions `checked`, `evaluated`,
 -- `simplified_answer` and `words_after`. The theorems are in proofs/Promises.antt, from the files beside it. Assumes nothing.
-use Rattle.std.specs.Prelude.{false, List, ◌↔◌, ◌≡◌, ℕ, ◌+◌, ◌*◌, ◌/◌, ◌^◌, ◌≤◌, ◌<◌, length, get_or, drop}
+use Rattle.std.specs.Prelude.{false, List, map, ◌↔◌, ◌≡◌, ℕ, ◌+◌, ◌*◌, ◌/◌, ◌^◌, ◌≤◌, ◌<◌, length, get_or, drop}
 use Rattle.arena.specs.Live.{tree_of}
 use Rattle.format.specs.Limits.{node_words, capacity}
 use Rattle.formed.specs.Lines.{Line}
@@ -11,6 +11,7 @@ use Rattle.promises.specs.FirstRows.{FirstBad, inputs, FirstWithoutRow}
 use Rattle.promises.specs.After.{DoneCall}
 use Rattle.promises.specs.Room.{Cleared, Appended}
 use Rattle.promises.specs.Words.{Words64}
+use Rattle.rules.specs.Bench.{seen, expected, bench, bench_holds}
 use Rattle.rules.specs.Call.{ran_on, fits, ended, simplified_answer, words_left, words_after, simplified_number, simplified_root, simplified_count}
 use Rattle.rules.specs.Run.{run_for, weight}
 use Rattle.rules.specs.declared.Simplified.{Simplified}
@@ -96,3 +97,7 @@ pub record Simplifying (words : List ℕ) (count root root' m : ℕ) : Type 0 wh
   pub appended : Appended words (words_after words count root) count root m
   pub nodes_are : nodes_of m (words_after words count root) ≡ (ran_on words count root).arena
   pub count_is : m ≡ count + length (drop count (ran_on words count root).arena)
+
+-- 01, examples: P1 to P12
+pub at_the_bench : map seen bench ≡ map expected bench
+at_the_bench = bench_holds

@@ -1,4 +1,5 @@
 -- 01's example P1 whole, through the call: its words, what they become, and what they become without room. Assumes nothing.
+-- The laws that rest on what an edit in must-fail/ changes are in proofs/Whole.antt.
 use Rattle.std.specs.Prelude.{List, [], ◌∷◌, ℕ}
 
 -- the words of (x - 5) + 3, with root 4 and count 5, and what lies after them

@@ -14,9 +14,10 @@ use Rattle.rules.specs.Run.{Out, out, unary_run, binary_run, weight, simplified}
 use Rattle.settle.specs.Chains.{after_run, ended_here, unary_child, binary_children}
 use Rattle.settle.specs.Visits.{OneAt, TwoAt}
 use Rattle.theory.specs.Normal.{Normal}
-use Rattle.theory.proofs.Normal.{normal_top}
+use Rattle.theory.specs.Normal.{normal_top}
 use Rattle.theory.proofs.Reduced.{reduced_normal, reduced_top}
-use Rattle.theory.proofs.Simulation.{run_on_normal, simplified_stands}
+use Rattle.theory.specs.Simulation.{run_on_normal}
+use Rattle.theory.proofs.Simulation.{simplified_stands}
 use Rattle.theory.specs.TreeRun.{reduced}
 use Rattle.theory.proofs.Values.{over_reduced_one, over_reduced_two}
 use Rattle.theory.specs.Visits.{OverNormal}

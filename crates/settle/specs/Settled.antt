@@ -12,8 +12,8 @@ use Rattle.rules.specs.Rules.{bin_act, un_act}
 use Rattle.rules.specs.Run.{Out, append, kept_as, make_const, near}
 use Rattle.rules.specs.declared.Act.{Act}
 use Rattle.settle.specs.declared.writer.Op.{Op}
-use Rattle.theory.proofs.Simulation.{near_stands}
-use Rattle.theory.proofs.Sizes.{size_bounds, bin_is_size, un_is_size}
+use Rattle.theory.specs.Simulation.{near_stands}
+use Rattle.theory.specs.Sizes.{size_bounds, bin_is_size, un_is_size}
 use Rattle.theory.specs.TreeRun.{const_tree}
 use Rattle.theory.specs.Values.{ActSized}
 use Rattle.theory.proofs.Values.{bin_act_sized, un_act_sized}

@@ -9,13 +9,14 @@ use Rattle.rules.specs.Rules.{constant_of, view, constants, on_left, on_right, o
 use Rattle.rules.specs.declared.Act.{Act}
 use Rattle.rules.specs.declared.Beside.{Beside}
 use Rattle.rules.specs.declared.Equals.{Equals}
-use Rattle.theory.specs.Keeps.{Replaces, bin_made}
-use Rattle.theory.proofs.Keeps.{value_fits, operands, replaces_itself, left_sized, left_free, made_constant, given, rebuilt}
-use Rattle.theory.specs.Lawful.{Operands, BesideKeeps, EqualKeeps}
-use Rattle.theory.proofs.Lawful.{by_test, lawful}
+use Rattle.theory.specs.Keeps.{Replaces, replaces_itself, bin_made, left_sized, left_free, given}
+use Rattle.theory.proofs.Keeps.{value_fits, operands, made_constant, rebuilt}
+use Rattle.theory.specs.Lawful.{by_test, Operands, BesideKeeps, EqualKeeps}
+use Rattle.theory.proofs.Lawful.{lawful}
 use Rattle.theory.specs.Seen.{Shows}
 use Rattle.theory.proofs.Seen.{constant_shows, view_tells}
-use Rattle.theory.proofs.Sizes.{tree_is_size, free_left, free_right, binary_sized}
+use Rattle.theory.specs.Sizes.{tree_is_size, free_left, free_right}
+use Rattle.theory.proofs.Sizes.{binary_sized}
 use Rattle.theory.specs.TreeRun.{left_of, const_tree}
 use Rattle.tree.specs.Form.{is_size, bin_sizing, Sized}
 use Rattle.tree.specs.Meaning.{Assignment, Fitting, bin_value, value}

@@ -8,8 +8,7 @@ use Rattle.rules.specs.Run.{weight}
 use Rattle.rules.specs.declared.Act.{Act}
 use Rattle.rules.specs.declared.Near.{Near}
 use Rattle.format.specs.Truth.{or_left, or_right, or_neither}
-use Rattle.theory.specs.Normal.{IsConst}
-use Rattle.theory.proofs.Normal.{normal_inputless, normal_top}
+use Rattle.theory.specs.Normal.{IsConst, normal_inputless, normal_top}
 use Rattle.theory.proofs.Reduced.{reduced_normal, reduced_top}
 use Rattle.theory.specs.TreeRun.{left_of, near_tree, const_tree, acted_tree, unary_tree, binary_tree, visit_tree, reduced_for, reduced}
 use Rattle.tree.specs.Tree.{Tree, top, entry, const, bind, unary, binary, is_top, has_top, has_input}

@@ -9,16 +9,16 @@ use Rattle.format.specs.declared.Bin.{Bin}
 use Rattle.format.specs.declared.ChildSize.{ChildSize}
 use Rattle.format.specs.declared.Sizing.{Sizing}
 use Rattle.format.specs.declared.Un.{Un}
-use Rattle.manual.proofs.Fits.{int_2comp_fits, int_sext_fits}
+use Rattle.manual.specs.Fits.{int_2comp_fits, int_sext_fits}
 use Rattle.theory.specs.Lawful.{Operands, Rebuilt}
 use Rattle.theory.proofs.Lawful.{lawful}
-use Rattle.theory.specs.Sizes.{Allowed}
-use Rattle.theory.proofs.Sizes.{size_bounds, allowed, child_allowed, children_allowed, tree_is_size, free_is_top, free_left, free_right, const_sized, binary_sized}
-use Rattle.theory.specs.TreeRun.{left_of, const_tree}
+use Rattle.theory.specs.Sizes.{size_bounds, Allowed, tree_is_size, free_is_top, free_left, free_right, const_sized}
+use Rattle.theory.proofs.Sizes.{allowed, child_allowed, children_allowed, binary_sized}
+use Rattle.theory.specs.TreeRun.{const_tree}
 use Rattle.tree.specs.Form.{is_size, un_sizing, bin_sizing, Sized}
 use Rattle.tree.specs.Meaning.{Assignment, Fitting, un_value, value}
 use Rattle.tree.specs.Tree.{Tree, top, entry, const, bind, unary, binary, size, has_top}
-use Rattle.theory.specs.Keeps.{Keeps, Replaces}
+use Rattle.theory.specs.Keeps.{Keeps}
 
 -- A VALUE FITS ITS SIZE
 
@@ -61,29 +61,7 @@ module _ (ρ : Assignment) (fitting : Fitting ρ) where
       (lawful op).fits s (size a) (size b) (value ρ a) (value ρ b)
       (operands op s a b ok free (value_fits a ok.1 (free_left a b free)) (value_fits b ok.2 (free_right a b free)))
 
-pub replaces_itself : (ρ : Assignment) (t : Tree) → Sized t → has_top t ≡ false → Replaces ρ t t
-replaces_itself ρ t ok free = record { sized = ok; size_is = refl; topless = free; value_is = refl }
-
-pub left_sized : (t : Tree) → Sized t → Sized (left_of t)
-left_sized top ok = ok
-left_sized (entry s space offset) ok = ok
-left_sized (const s v) ok = ok
-left_sized (bind s id) ok = ok
-left_sized (unary op s a) ok = ok.1
-left_sized (binary op s a b) ok = ok.1
-
-pub left_free : (t : Tree) → has_top t ≡ false → has_top (left_of t) ≡ false
-left_free top free = free
-left_free (entry s space offset) free = free
-left_free (const s v) free = free
-left_free (bind s id) free = free
-left_free (unary op s a) free = free
-left_free (binary op s a b) free = free_left a b free
-
 -- WHAT ACTIONS MAKE: a node at hand, a constant, a node over a new constant
-
-pub given : {ρ : Assignment} {s v : ℕ} {u : Tree} → Sized u → has_top u ≡ false → (size u ≡ s) × (value ρ u ≡ v) → Keeps ρ s v u
-given ok free h = record { sized = ok; size_is = h.0; topless = free; value_is = h.1 }
 
 pub made_constant : {ρ : Assignment} {s v : ℕ} → is_size s ≡ true → (n : ℕ) → n % 2 ^ (8 * s) ≡ v → Keeps ρ s v (const_tree s n)
 made_constant {s = s} is n e = record { sized = const_sized s n is; size_is = refl; topless = refl; value_is = e }

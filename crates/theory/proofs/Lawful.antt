@@ -1,28 +1,23 @@
 -- Why the rule of each kind of two children keeps the value, in numbers: all that depends on the kind is one record, with a line
 -- for each kind. Assumes nothing.
-use Rattle.std.specs.Prelude.{Bool, true, false, cond, ◌≡◌, refl, ℕ, ◌-◌, ◌*◌, ◌%◌, ◌^◌, ◌≤◌, ◌<◌, eqb}
+use Rattle.std.specs.Prelude.{true, false, cond, ◌≡◌, refl, ℕ, ◌-◌, ◌*◌, ◌%◌, ◌^◌, ◌≤◌, ◌<◌, eqb}
 use Rattle.std.proofs.lemmas.Bool.{false≢true}
-use Rattle.std.proofs.Common.{sym, ◌∙◌, subst, mod-eq_of_lt, arith, eqb-true}
+use Rattle.std.proofs.Common.{sym, ◌∙◌, mod-eq_of_lt, arith, eqb-true}
 use Rattle.std.proofs.Math.Nat.{zero-mod}
 use Rattle.format.specs.Kinds.{row_of}
 use Rattle.format.specs.declared.Bin.{Bin}
 use Rattle.format.specs.declared.Sizing.{Sizing}
-use Rattle.manual.proofs.Fits.{int_add_fits, int_sub_fits, int_mult_fits, int_xor_fits, int_or_fits, int_left_fits, int_right_fits, int_sright_fits, int_carry_fits, int_scarry_fits, int_sborrow_fits}
-use Rattle.manual.proofs.Laws.{int_add_comm, int_mult_comm, int_xor_comm, int_or_comm, int_add_zero, int_sub_zero, int_mult_one, int_mult_zero, int_xor_zero, int_or_zero, int_or_ones, int_left_zero, int_right_zero, int_sright_zero, int_sub_self, int_xor_self, int_or_self, int_sborrow_self}
+use Rattle.manual.specs.Fits.{int_add_fits, int_sub_fits, int_mult_fits, int_xor_fits, int_or_fits, int_left_fits, int_right_fits, int_scarry_fits, int_sborrow_fits}
+use Rattle.manual.proofs.Fits.{int_sright_fits, int_carry_fits}
+use Rattle.manual.specs.Laws.{int_add_comm, int_mult_comm, int_xor_comm, int_or_comm, int_add_zero, int_sub_zero, int_mult_one, int_mult_zero, int_xor_zero, int_or_zero, int_or_ones, int_left_zero, int_right_zero, int_sub_self, int_xor_self, int_or_self, int_sborrow_self}
+use Rattle.manual.proofs.Laws.{int_sright_zero}
 use Rattle.manual.specs.Operations.{int_add, int_sub, int_mult, int_xor, int_or, int_left, int_right, int_sright, int_2comp, negative64}
-use Rattle.manual.proofs.Rewritings.{subtract_is_add, add_add, sub_sub, sub_add_by_sign, add_sub_by_sign}
+use Rattle.manual.specs.Rewritings.{subtract_is_add, add_add, sub_sub, sub_add_by_sign, add_sub_by_sign}
 use Rattle.rules.specs.Rules.{add_inner, sub_inner}
 use Rattle.rules.specs.declared.Beside.{Beside}
 use Rattle.rules.specs.declared.View.{View}
 use Rattle.theory.specs.Seen.{Tells}
-use Rattle.theory.specs.Lawful.{BesideKeeps, Lawful, Operands, Rebuilt}
-
-pub by_test : {A : Type 0} (P : A → Type 0) (test : Bool) {x y : A} → (test ≡ true → P x) → (test ≡ false → P y) → P (cond test x y)
-by_test P true p q = p refl
-by_test P false p q = q refl
-
-pub at_size : {c s x : ℕ} → c ≡ s → x < 2 ^ (8 * c) → x < 2 ^ (8 * s)
-at_size {x = x} e h = subst (λ (n : ℕ). x < 2 ^ (8 * n)) e h
+use Rattle.theory.specs.Lawful.{BesideKeeps, Lawful, Operands, Rebuilt, at_size, by_test}
 
 -- WHAT A DECISION OWES, so that it keeps the value v of a node of s bytes. The child e that it is about has c bytes and the value
 -- x, and e's left child k bytes and the value i.

@@ -1,12 +1,9 @@
 pub mod BinValues
-pub mod Falls
 pub mod Inputs
 pub mod Keeps
 pub mod Lawful
-pub mod MissingLaws
 pub mod Normal
 pub mod Reduced
-pub mod RowLaws
 pub mod Seen
 pub mod Simulation
 pub mod SizedRun

@@ -10,22 +10,12 @@ use Rattle.rules.specs.Run.{is_sub, weight}
 use Rattle.rules.specs.declared.Act.{Act}
 use Rattle.rules.specs.declared.Near.{Near}
 use Rattle.format.specs.Truth.{or_left, or_right, or_swapped, or_cong}
-use Rattle.theory.specs.Falls.{Falls}
-use Rattle.theory.proofs.Falls.{nodes_positive, path_positive, sub_le, falls_weaker, unary_falls, binary_falls}
-use Rattle.theory.proofs.Keeps.{left_free}
-use Rattle.theory.specs.Normal.{Normal}
-use Rattle.theory.proofs.Normal.{normal_top, swap_keeps, unary_no_swap}
-use Rattle.theory.specs.TreeRun.{left_of, near_tree, const_tree, acted_tree, unary_tree, binary_tree, over_one, over_two, visit_tree, reduced_for, reduced}
+use Rattle.theory.specs.Falls.{nodes_positive, path_positive, sub_le, Falls, falls_weaker, unary_falls, binary_falls}
+use Rattle.theory.specs.Keeps.{left_free}
+use Rattle.theory.specs.Normal.{Normal, normal_top, swap_keeps, unary_no_swap}
+use Rattle.theory.specs.TreeRun.{near_tree, const_tree, acted_tree, unary_tree, binary_tree, over_one, over_two, visit_tree, reduced_for, reduced}
 use Rattle.tree.specs.Tree.{Tree, top, entry, const, bind, unary, binary, nodes, path, is_top, has_top}
-use Rattle.theory.specs.Reduced.{Outcome, WellBelow}
-
-left_normal : (t : Tree) → Normal t → Normal (left_of t)
-left_normal top h = tt
-left_normal (entry s sp o) h = tt
-left_normal (const s v) h = tt
-left_normal (bind s d) h = tt
-left_normal (unary op s a) h = h.0
-left_normal (binary op s a b) h = h.0
+use Rattle.theory.specs.Reduced.{Outcome, WellBelow, left_normal, no_more_nodes}
 
 module _ (a b : Tree) where
   pub near_normal : (w : Near) → Normal a → Normal b → Normal (near_tree w a b)
@@ -67,10 +57,6 @@ acted_outcome again W P i j g (Act.Redo op z v) kept swapped s a b p q x y f k w
     looser (omega (arith, f.falls)) (redo_short op s v P (near_tree z a b) f.short) (rw (near_topless a b z x y)) (g u (omega (arith, f.falls)))
 acted_outcome again W P i j g (Act.RedoUnary op z) kept swapped s a b p q x y f k w =
     looser (omega (arith, f.falls)) f.short (near_topless a b z x y) (g (unary op s (near_tree z a b)) (omega (arith, f.falls)))
-
--- the children became no larger
-pub no_more_nodes : (a a' : Tree) {P : ℕ} {c : Bool} → Outcome (weight a) P c a' → nodes a' ≤ nodes a
-no_more_nodes a a' g = omega (arith, sub_le a, g.within.light)
 
 max_mono : (m n p q : ℕ) → m ≤ p → n ≤ q → max m n ≤ max p q
 max_mono m n p q h i = max-le (omega (arith, le-max_left p q)) (omega (arith, le-max_right p q))

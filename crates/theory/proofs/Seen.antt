@@ -7,8 +7,8 @@ use Rattle.format.specs.declared.ChildSize.{ChildSize}
 use Rattle.format.specs.declared.Sizing.{Sizing}
 use Rattle.format.specs.declared.Un.{Un}
 use Rattle.rules.specs.Rules.{constant_of, bin_view, un_view, view}
-use Rattle.theory.specs.Sizes.{Allowed}
-use Rattle.theory.proofs.Sizes.{allowed, child_allowed, children_allowed, free_is_top, free_left, free_right}
+use Rattle.theory.specs.Sizes.{Allowed, free_is_top, free_left, free_right}
+use Rattle.theory.proofs.Sizes.{allowed, child_allowed, children_allowed}
 use Rattle.theory.specs.TreeRun.{left_of}
 use Rattle.tree.specs.Form.{un_sizing, bin_sizing, Sized}
 use Rattle.tree.specs.Meaning.{Assignment, un_value, bin_value, value}

@@ -13,13 +13,13 @@ use Rattle.format.specs.declared.Un.{Un}
 use Rattle.rules.specs.Rules.{bin_act, un_act}
 use Rattle.rules.specs.Run.{Out, make_const, near, acted, kept_as, unary_run, binary_run, visit, weight, simplified}
 use Rattle.rules.specs.declared.Act.{Act}
-use Rattle.theory.specs.Falls.{Falls}
-use Rattle.theory.proofs.Falls.{sub_le, falls_weaker, unary_falls, binary_falls}
-use Rattle.theory.proofs.Normal.{normal_top}
+use Rattle.theory.specs.Falls.{sub_le, Falls, falls_weaker, unary_falls, binary_falls}
+use Rattle.theory.specs.Normal.{normal_top}
 use Rattle.theory.proofs.Reduced.{reduced_normal, reduced_top, reduced_nodes}
-use Rattle.theory.specs.Simulation.{Stands}
-use Rattle.theory.proofs.Simulation.{onward, near_stands, appended_stands, redo_stands, simplified_stands, simplified_eq}
-use Rattle.theory.proofs.Sizes.{size_bounds, allowed, tree_is_size}
+use Rattle.theory.specs.Simulation.{Stands, onward, near_stands, appended_stands}
+use Rattle.theory.proofs.Simulation.{redo_stands, simplified_stands, simplified_eq}
+use Rattle.theory.specs.Sizes.{size_bounds, tree_is_size}
+use Rattle.theory.proofs.Sizes.{allowed}
 use Rattle.theory.specs.TreeRun.{const_tree, reduced}
 use Rattle.theory.specs.Values.{ActSized}
 use Rattle.theory.proofs.Values.{over_reduced_one, over_reduced_two, bin_act_sized, un_act_sized}

@@ -4,18 +4,19 @@ use Rattle.std.specs.Prelude.{true, false, ◌≡◌, refl, ℕ, ◌*◌, ◌^�
 use Rattle.std.proofs.Common.{sym, mod-eq_of_lt, arith, eqb-true}
 use Rattle.format.specs.Kinds.{row_of}
 use Rattle.format.specs.declared.Un.{Un}
-use Rattle.manual.proofs.Fits.{int_2comp_fits, int_sext_fits}
-use Rattle.manual.proofs.Laws.{int_2comp_twice, int_sext_same, int_sext_twice}
+use Rattle.manual.specs.Fits.{int_2comp_fits, int_sext_fits}
+use Rattle.manual.specs.Laws.{int_2comp_twice, int_sext_same, int_sext_twice}
 use Rattle.manual.specs.Operations.{int_2comp, int_sext}
 use Rattle.rules.specs.Rules.{view, neg_act, sext_inner, un_act}
 use Rattle.rules.specs.declared.Act.{Act}
 use Rattle.rules.specs.declared.View.{View}
-use Rattle.theory.specs.Keeps.{Replaces, un_made}
-use Rattle.theory.proofs.Keeps.{value_fits, replaces_itself, left_sized, left_free, made_constant, given}
-use Rattle.theory.proofs.Lawful.{by_test, at_size}
+use Rattle.theory.specs.Keeps.{Replaces, replaces_itself, un_made, left_sized, left_free, given}
+use Rattle.theory.proofs.Keeps.{value_fits, made_constant}
+use Rattle.theory.specs.Lawful.{by_test, at_size}
 use Rattle.theory.specs.Seen.{Tells}
 use Rattle.theory.proofs.Seen.{view_tells}
-use Rattle.theory.proofs.Sizes.{size_bounds, child_allowed, tree_is_size, free_is_top, unary_sized}
+use Rattle.theory.specs.Sizes.{size_bounds, tree_is_size, free_is_top}
+use Rattle.theory.proofs.Sizes.{child_allowed, unary_sized}
 use Rattle.theory.specs.TreeRun.{left_of, const_tree}
 use Rattle.tree.specs.Form.{is_size, un_sizing, Sized}
 use Rattle.tree.specs.Meaning.{Assignment, Fitting, value}

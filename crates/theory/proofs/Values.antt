@@ -11,9 +11,8 @@ use Rattle.rules.specs.Rules.{bin_act, un_act}
 use Rattle.rules.specs.Run.{weight}
 use Rattle.rules.specs.declared.Act.{Act}
 use Rattle.theory.proofs.BinValues.{bin_act_keeps}
-use Rattle.theory.specs.Keeps.{Keeps, Replaces}
-use Rattle.theory.proofs.Keeps.{replaces_itself}
-use Rattle.theory.proofs.Sizes.{size_seen_lem, free_is_top, free_left, free_right}
+use Rattle.theory.specs.Keeps.{Keeps, Replaces, replaces_itself}
+use Rattle.theory.specs.Sizes.{size_seen_lem, free_is_top, free_left, free_right}
 use Rattle.theory.specs.TreeRun.{acted_tree, over_one, over_two, visit_tree, reduced_for, reduced}
 use Rattle.theory.proofs.UnValues.{un_act_keeps}
 use Rattle.tree.specs.Form.{sized, un_sizing, bin_sizing, size_seen, Sized}

@@ -1,20 +1,19 @@
 -- One visit of the run over an arena, put together from the runs of its children: what it equals, what it appends, and what falls. The
 -- code is proved against these. Assumes nothing.
-use Rattle.std.specs.Prelude.{Bool, true, false, ◌&&◌, ◌||◌, List, ◌≡◌, refl, ℕ, ◌≤◌, ◌<◌, eqb, length}
+use Rattle.std.specs.Prelude.{Bool, true, ◌&&◌, ◌||◌, List, ◌≡◌, refl, ℕ, ◌≤◌, ◌<◌, eqb, length}
 use Rattle.std.proofs.Common.{ap, ap₂, sym, ◌∙◌}
 use native.Mathlib.Omega.{arith}
 use Rattle.format.specs.declared.Bin.{Bin}
 use Rattle.format.specs.declared.Node.{Node}
 use Rattle.format.specs.declared.Un.{Un}
 use Rattle.rules.specs.Rules.{bin_act, un_act}
-use Rattle.rules.specs.Run.{Out, out, append, acted, kept_as, unary_run, binary_run, visit, weight, simplified}
+use Rattle.rules.specs.Run.{Out, out, append, kept_as, unary_run, binary_run, visit, weight, simplified}
 use Rattle.rules.specs.declared.Act.{Act}
-use Rattle.theory.specs.Falls.{Falls}
-use Rattle.theory.proofs.Falls.{sub_le, unary_falls, binary_falls}
+use Rattle.theory.specs.Falls.{sub_le, Falls, unary_falls, binary_falls}
 use Rattle.theory.specs.Normal.{Normal}
 use Rattle.theory.proofs.Reduced.{near_normal, reduced_nodes}
-use Rattle.theory.specs.Simulation.{Stands, Simulates}
-use Rattle.theory.proofs.Simulation.{appended_stands, acted_stands, kept_unary, kept_binary, unary_stands, binary_stands, simplified_stands, simplified_eq}
+use Rattle.theory.specs.Simulation.{Stands, Simulates, appended_stands, kept_unary, kept_binary}
+use Rattle.theory.proofs.Simulation.{acted_stands, unary_stands, binary_stands, simplified_stands, simplified_eq}
 use Rattle.theory.specs.TreeRun.{acted_tree, unary_tree, binary_tree, reduced}
 use Rattle.tree.specs.Arena.{at, tree_at, Ordered}
 use Rattle.tree.specs.ArenaLaws.{extends_refl, extends_trans, tree_stays, tree_eq}
@@ -22,24 +21,6 @@ use Rattle.tree.specs.Tree.{Tree, unary, binary, is_top}
 use Rattle.theory.specs.Visits.{OverNormal, carried, redoes}
 
 -- WHETHER AN ACTION IS SIMPLIFIED AGAIN, and what is left where it is not
-
-pub redone : (f : List Node → ℕ → Out) (act : Act) (kept swapped : Out) (s : ℕ) (arena : List Node) (a b : ℕ) → redoes act ≡ true →
-    acted f act kept swapped s arena a b ≡ f (carried act kept swapped s arena a b).arena (carried act kept swapped s arena a b).index
-redone f Act.Keep kept swapped s arena a b e = let z : ◌≡◌ {A = ℕ} 0 1 = cc in absurd (omega arith)
-redone f Act.Swap kept swapped s arena a b e = let z : ◌≡◌ {A = ℕ} 0 1 = cc in absurd (omega arith)
-redone f (Act.Give w) kept swapped s arena a b e = let z : ◌≡◌ {A = ℕ} 0 1 = cc in absurd (omega arith)
-redone f (Act.Make v) kept swapped s arena a b e = let z : ◌≡◌ {A = ℕ} 0 1 = cc in absurd (omega arith)
-redone f (Act.Redo op w v) kept swapped s arena a b e = refl
-redone f (Act.RedoUnary op w) kept swapped s arena a b e = refl
-
-pub not_redone : (f : List Node → ℕ → Out) (act : Act) (kept swapped : Out) (s : ℕ) (arena : List Node) (a b : ℕ) → redoes act ≡ false →
-    acted f act kept swapped s arena a b ≡ carried act kept swapped s arena a b
-not_redone f Act.Keep kept swapped s arena a b e = refl
-not_redone f Act.Swap kept swapped s arena a b e = refl
-not_redone f (Act.Give w) kept swapped s arena a b e = refl
-not_redone f (Act.Make v) kept swapped s arena a b e = refl
-not_redone f (Act.Redo op w v) kept swapped s arena a b e = let z : ◌≡◌ {A = ℕ} 0 1 = cc in absurd (omega arith)
-not_redone f (Act.RedoUnary op w) kept swapped s arena a b e = let z : ◌≡◌ {A = ℕ} 0 1 = cc in absurd (omega arith)
 
 -- what is simplified again weighs less
 redo_lighter : (act : Act) (W P : ℕ) (kept swapped : Tree) (s : ℕ) (a b : Tree) → redoes act ≡ true → Falls act W P a b →
@@ -105,9 +86,6 @@ module _ (arena : List Node) (w : Ordered arena) (i : ℕ) (b : i < length arena
         rw (one_eq (simplified arena j).arena (simplified arena j).index refl refl)
         (one_stands (is_top (tree_at (simplified arena j).arena (simplified arena j).index))).extends.grown
 
-    pub one_falls : weight (tree_at arena j) < weight (tree_at arena i)
-    one_falls = rw (tree_eq arena w i b, e) (omega (arith, sub_le (tree_at arena j)))
-
     pub one_lighter : weight (unary op s (tree_at (simplified arena j).arena (simplified arena j).index)) ≤ weight (tree_at arena i)
     one_lighter =
         let x = simplified_stands arena w j hj in
@@ -154,9 +132,6 @@ module _ (arena : List Node) (w : Ordered arena) (i : ℕ) (b : i < length arena
 
     pub left_grows : length (simplified arena j).arena ≤ length (simplified arena i).arena
     left_grows = let l = Y.extends.grown in let m = right_grows in omega arith
-
-    pub left_falls : weight (tree_at arena j) < weight (tree_at arena i)
-    left_falls = rw (tree_eq arena w i b, e) (omega (arith, sub_le (tree_at arena j)))
 
     pub right_falls : weight (tree_at (simplified arena j).arena k) < weight (tree_at arena i)
     right_falls =

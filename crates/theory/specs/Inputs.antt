@@ -1,5 +1,5 @@
 -- The run gains no input: whatever holds of every input of a tree holds of every input of what it becomes. Assumes nothing.
-
+-- The laws that rest on what an edit in must-fail/ changes are in proofs/Inputs.antt.
 use Rattle.tree.specs.Tree.{Tree, top, entry, const, bind, unary, binary}
 
 -- Q holds of every input, which is given as the tree that it is

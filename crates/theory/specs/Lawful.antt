@@ -1,6 +1,8 @@
 -- Why the rule of each kind of two children keeps the value, in numbers: all that depends on the kind is one record, with a line
 -- for each kind. Assumes nothing.
-use Rattle.std.specs.Prelude.{true, ◌≡◌, ℕ, ◌*◌, ◌%◌, ◌^◌, ◌≤◌, ◌<◌}
+-- The laws that rest on what an edit in must-fail/ changes are in proofs/Lawful.antt.
+use Rattle.std.specs.Prelude.{Bool, true, false, cond, ◌≡◌, refl, ℕ, ◌*◌, ◌%◌, ◌^◌, ◌≤◌, ◌<◌}
+use Rattle.std.proofs.Common.{subst}
 use Rattle.format.specs.declared.Bin.{Bin}
 use Rattle.format.specs.declared.ChildSize.{ChildSize}
 use Rattle.format.specs.declared.Sizing.{Sizing}
@@ -12,6 +14,13 @@ use Rattle.theory.specs.Seen.{Tells}
 use Rattle.theory.specs.Sizes.{Allowed}
 use Rattle.tree.specs.Form.{bin_sizing}
 use Rattle.tree.specs.Meaning.{bin_value}
+
+pub by_test : {A : Type 0} (P : A → Type 0) (test : Bool) {x y : A} → (test ≡ true → P x) → (test ≡ false → P y) → P (cond test x y)
+by_test P true p q = p refl
+by_test P false p q = q refl
+
+pub at_size : {c s x : ℕ} → c ≡ s → x < 2 ^ (8 * c) → x < 2 ^ (8 * s)
+at_size {x = x} e h = subst (λ (n : ℕ). x < 2 ^ (8 * n)) e h
 
 -- the operands of a node of s bytes under a rule of sizes: x of c bytes, and y of d bytes
 pub record Operands (rule : Sizing) (s c d x y : ℕ) : Type 0 where

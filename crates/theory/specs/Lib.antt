@@ -12,3 +12,4 @@ pub mod Values
 pub mod Visits
 pub mod SizedRun
 pub mod MissingLaws
+pub mod RowLaws

@@ -1,4 +1,5 @@
 -- What a rule's view of a tree tells of the tree's size and value, in numbers. Assumes nothing.
+-- The laws that rest on what an edit in must-fail/ changes are in proofs/Seen.antt.
 use Rattle.std.specs.Prelude.{◌≡◌, ℕ, ◌*◌, ◌^◌, ◌≤◌, ◌<◌}
 use Rattle.std.proofs.Math.Option.{Option, some, none}
 use Rattle.manual.specs.Operations.{int_add, int_sub, int_2comp, int_sext}

@@ -1,4 +1,5 @@
 -- The run keeps an arena storable: all its trees are well sized, and its payloads are words of 64 bits. Assumes nothing.
+-- The laws that rest on what an edit in must-fail/ changes are in proofs/SizedRun.antt.
 use Rattle.std.specs.Prelude.{List, ℕ, ◌^◌, ◌<◌, length}
 use Rattle.format.specs.Nodes.{payload_of}
 use Rattle.format.specs.declared.Node.{Node}

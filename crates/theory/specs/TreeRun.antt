@@ -1,4 +1,4 @@
--- The run once more, on trees and without an arena: what it makes of a tree, wherever its nodes lie. Simulation.antt shows
+-- The run once more, on trees and without an arena: what it makes of a tree, wherever its nodes lie. proofs/Simulation.antt shows
 -- that the run over an arena ends at this tree. Assumes nothing: these are definitions.
 use Rattle.std.specs.Prelude.{Bool, true, false, ◌||◌, ℕ, zero, suc, ◌*◌, ◌%◌, ◌^◌}
 use Rattle.format.specs.declared.Bin.{Bin}

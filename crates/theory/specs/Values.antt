@@ -1,6 +1,7 @@
 -- The run keeps the size and the value of a tree from which no Top is reached, whatever the inputs are; so it keeps sizes in any
 -- tree. Assumes nothing.
 -- Throughout, `ok` says that a tree is well sized, and `free` that no Top is reached from it.
+-- The laws that rest on what an edit in must-fail/ changes are in proofs/Values.antt.
 use Rattle.std.specs.Prelude.{ℕ}
 use Rattle.rules.specs.declared.Act.{Act}
 use Rattle.theory.specs.TreeRun.{near_tree, const_tree}

@@ -1,2 +1,2 @@
-// What follows from the rules and the run: see specs/. It has no code.
+// What follows from the rules and the run: see specs/ and proofs/. It has no code.
 #![tactic(auto)]

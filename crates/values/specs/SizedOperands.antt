@@ -9,9 +9,10 @@ use Rattle.format.specs.declared.Sizing.{Sizing}
 use Rattle.format.specs.declared.Un.{Un}
 use Rattle.theory.proofs.Keeps.{operands, value_fits}
 use Rattle.theory.specs.Lawful.{Operands}
-use Rattle.theory.proofs.Lawful.{at_size}
+use Rattle.theory.specs.Lawful.{at_size}
 use Rattle.theory.specs.Sizes.{Allowed}
-use Rattle.theory.proofs.Sizes.{child_allowed, free_is_top, free_left, free_right, size_bounds, tree_is_size}
+use Rattle.theory.specs.Sizes.{free_is_top, free_left, free_right, size_bounds, tree_is_size}
+use Rattle.theory.proofs.Sizes.{child_allowed}
 use Rattle.tree.specs.Form.{un_sizing, bin_sizing, Sized}
 use Rattle.tree.specs.Meaning.{Assignment, Fitting, value}
 use Rattle.tree.specs.Tree.{Tree, unary, binary, size, has_top}

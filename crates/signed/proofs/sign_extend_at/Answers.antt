@@ -1,6 +1,6 @@
 -- `sign_extend_at` meets its contract. Assumes nothing.
 use Rattle.std.proofs.Common.{◌*◌, arith}
-use Rattle.manual.proofs.Cuts.{int_sext_cut}
+use Rattle.manual.specs.Cuts.{int_sext_cut}
 use Rattle.signed.proofs.sign_extend_at.Goals as goal
 
 pub returns : goal.returns

@@ -1,6 +1,6 @@
 -- `ops::add_at` meets its contract. Assumes nothing.
 use Rattle.std.proofs.Common.{◌*◌, arith}
-use Rattle.manual.proofs.Cuts.{int_add_cut}
+use Rattle.manual.specs.Cuts.{int_add_cut}
 use Rattle.arith.proofs.ops.add_at.Goals as goal
 
 pub returns : goal.returns

@@ -1,6 +1,6 @@
 -- `ops::neg_at` meets its contract. Assumes nothing.
 use Rattle.std.proofs.Common.{◌*◌, arith}
-use Rattle.manual.proofs.Cuts.{int_2comp_cut}
+use Rattle.manual.specs.Cuts.{int_2comp_cut}
 use Rattle.arith.proofs.ops.neg_at.Goals as goal
 
 pub returns : goal.returns

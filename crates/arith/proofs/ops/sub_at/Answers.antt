@@ -1,6 +1,6 @@
 -- `ops::sub_at` meets its contract. Assumes nothing.
 use Rattle.std.proofs.Common.{◌*◌, arith}
-use Rattle.manual.proofs.Cuts.{int_sub_cut}
+use Rattle.manual.specs.Cuts.{int_sub_cut}
 use Rattle.arith.proofs.ops.sub_at.Goals as goal
 
 pub returns : goal.returns

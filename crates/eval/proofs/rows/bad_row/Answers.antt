@@ -1,6 +1,6 @@
 -- The first bad row, row by row. Assumes nothing.
 use Rattle.std.proofs.Common.{sym, ◌∙◌, arith, eq-eqb, ne_eqb}
-use Rattle.theory.proofs.RowLaws.{bad_step, bad_end}
+use Rattle.theory.specs.RowLaws.{bad_step, bad_end}
 use Rattle.eval.proofs.rows.bad_row.Goals as goal
 
 pub returns-then-not-good_row : goal.returns-then-not-good_row

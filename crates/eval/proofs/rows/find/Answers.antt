@@ -1,6 +1,6 @@
 -- The row sought, row by row. Assumes nothing.
 use Rattle.std.proofs.Common.{sym, ◌∙◌, arith}
-use Rattle.theory.proofs.RowLaws.{found_step, found_end}
+use Rattle.theory.specs.RowLaws.{found_step, found_end}
 use Rattle.eval.proofs.rows.find.Goals as goal
 
 pub returns-then-keyed : goal.returns-then-keyed

@@ -3,7 +3,7 @@ use Rattle.std.specs.Prelude.{◌≡◌, ℕ, ◌+◌, ◌-◌, ◌*◌, ◌%◌
 use Rattle.std.proofs.Common.{◌∙◌, ⊎_elim, mod-eq_of_lt, arith, pow_mono}
 use Rattle.manual.specs.Operations.{int_add, int_sub, int_mult, int_2comp, int_sext}
 use Rattle.manual.specs.Modulo.{Congruent, same_remainder, remainder, difference, divides, narrowed}
-use Rattle.manual.proofs.Halves.{below_or, int_sext_lower, int_sext_upper}
+use Rattle.manual.specs.Halves.{below_or, int_sext_lower, int_sext_upper}
 
 module _ (w : ℕ) (small : w ≤ 64) where
   -- a constant of w bits is one of 64

@@ -4,7 +4,7 @@ use Rattle.std.specs.Prelude.{◌≡◌, Bool, true, false, cond, ℕ, ◌+◌, 
 use Rattle.std.proofs.Common.{mod-lt, arith, pow_pos}
 use Rattle.manual.specs.Operations.{int_add, int_sub, int_2comp, negative64, amount64}
 use Rattle.manual.specs.Modulo.{Congruent, same_remainder, remainder, difference, chained, narrowed}
-use Rattle.manual.proofs.Cuts.{wide, wide_difference}
+use Rattle.manual.specs.Cuts.{wide, wide_difference}
 
 module _ (w : ℕ) (small : w ≤ 64) where
   cut_sum : (a b : ℕ) → Congruent (2 ^ w) (int_add 64 a b % 2 ^ w) (a + b)

@@ -6,7 +6,7 @@ use Rattle.format.proofs.KindRules.{un_number_known, bin_number_known}
 use Rattle.format.specs.Limits.{node_words, max_nodes}
 use Rattle.format.specs.Nodes.{header_of, Narrow}
 use Rattle.format.specs.declared.Node.{Node}
-use Rattle.theory.proofs.Sizes.{size_bounds, tree_is_size}
+use Rattle.theory.specs.Sizes.{size_bounds, tree_is_size}
 use Rattle.tree.specs.Arena.{build, Below}
 use Rattle.tree.specs.Form.{Sized}
 use Rattle.tree.specs.Tree.{Tree, entry, const, bind, unary, binary, size, is_top}
