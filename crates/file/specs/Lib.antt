@@ -1,3 +1,5 @@
 pub mod Bytes
 pub mod File
 pub mod FileLaws
+pub mod Line
+pub mod Read

@@ -1,14 +1,21 @@
 // The line that the program prints.
+ghost use Rattle.std.specs.Prelude.{OnOk};
+ghost use Rattle.std.specs.Io.KnownBytes.{Appends};
+ghost use Rattle.file.specs.Line.{line_of};
+
 use simplifier::exports::SimplifyReply;
 use std::io;
+use std::io::Write;
 
 // Number, place, root and count, as one line of four decimals.
-pub fn print(rt: &impl Print, reply: SimplifyReply) -> io::Result<()> {
+pub fn print<W: Write>(to: &mut W, reply: SimplifyReply) -> io::Result<()>
+    ensures { OnOk result (Appends (W.contents to.old) (W.contents to.new) (line_of reply)) }
+{
     let SimplifyReply {
         number,
         place,
         root,
         count,
     } = reply;
-    println!(rt; "{number} {place} {root} {count}")
+    writeln!(to, "{number} {place} {root} {count}")
 }

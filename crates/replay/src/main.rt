@@ -9,7 +9,7 @@ use file::input::{BUFFER_BYTES, read_full};
 use simplifier::exports::SimplifyReply;
 use std::fs::File;
 use std::io;
-use std::io::Read;
+use std::io::{Read, Write};
 
 // How many bytes a record's length takes.
 const LENGTH_BYTES: usize = 2;
@@ -21,8 +21,8 @@ fn answer(bytes: &[u8]) -> SimplifyReply
     file::answer(bytes, &mut words)
 }
 
-// Reads a record, two bytes of length and then a file of that length, and prints the answer to it. False where there is no whole record.
-fn replay_one(rt: &impl Print, records: &mut impl Read, buffer: &mut [u8]) -> io::Result<bool> {
+// Reads a record, two bytes of length and then a file of that length, and writes the line that answers it. False where there is no whole record.
+fn replay_one(records: &mut impl Read, buffer: &mut [u8], to: &mut impl Write) -> io::Result<bool> {
     let mut length = [0u8; LENGTH_BYTES];
     if read_full(records, &mut length)? < LENGTH_BYTES {
         return Ok(false);
@@ -34,14 +34,14 @@ fn replay_one(rt: &impl Print, records: &mut impl Read, buffer: &mut [u8]) -> io
     if read_full(records, &mut buffer[..size])? < size {
         return Ok(false);
     }
-    file::line::print(rt, answer(&buffer[..size]))?;
+    file::line::print(to, answer(&buffer[..size]))?;
     Ok(true)
 }
 
 // The loop counts its turns down from a number that no run uses up, since nothing says that a file ends.
-fn replay_all(rt: &impl Print, records: &mut impl Read, buffer: &mut [u8]) -> io::Result<()> {
+fn replay_all(records: &mut impl Read, buffer: &mut [u8], to: &mut impl Write) -> io::Result<()> {
     let mut turns = u64::MAX;
-    while turns > 0 && replay_one(rt, records, buffer)? {
+    while turns > 0 && replay_one(records, buffer, to)? {
         turns -= 1;
     }
     Ok(())
@@ -50,5 +50,5 @@ fn replay_all(rt: &impl Print, records: &mut impl Read, buffer: &mut [u8]) -> io
 fn main(rt: HostRuntime) -> io::Result<()> {
     let mut records = File::open(&rt, "vectors")?;
     let mut buffer = [0u8; BUFFER_BYTES];
-    replay_all(&rt, &mut records, &mut buffer)
+    replay_all(&mut records, &mut buffer, &mut io::writer(&rt))
 }
