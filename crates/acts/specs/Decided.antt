@@ -1,6 +1,5 @@
 -- A rule's decision by what the code has read of the children, and why the operands of a fold fit. Assumes nothing.
-use Rattle.std.specs.Prelude.{Bool, true, false, cond, List, ◌≡◌, refl, ℕ, ◌*◌}
-use Rattle.std.proofs.Math.Option.{Option, some, none}
+use Rattle.std.specs.Prelude.{Bool, true, false, cond, List, ◌≡◌, refl, ℕ, ◌*◌, None, Option, Some}
 use Rattle.std.proofs.Common.{ap, sym, ◌∙◌, arith, pow_pos}
 use Rattle.acts.specs.Operated.{UnaryOver, BinaryOver, ViewFits}
 use Rattle.acts.specs.Views.{view_constant, view_constant_lem}
@@ -38,11 +37,11 @@ read_as op s a b {x} {y} p q e f g = g ∙ ap (decided op s (same a b) x y (size
 pub is_size_lem : (s : ℕ) → is_size s ≡ true → Size s
 is_size_lem s e = let b = size_bounds s e in record { least = b.0; most = b.1 }
 
-both_constant : (u v : Option ℕ) {m n : ℕ} → constants u v ≡ Constants.Both m n → (u ≡ some m) × (v ≡ some n)
-both_constant none none e = let z : ◌≡◌ {A = ℕ} 0 1 = cc in absurd (omega arith)
-both_constant none (some b) e = let z : ◌≡◌ {A = ℕ} 0 1 = cc in absurd (omega arith)
-both_constant (some a) none e = let z : ◌≡◌ {A = ℕ} 0 1 = cc in absurd (omega arith)
-both_constant (some a) (some b) e = (cc, cc)
+both_constant : (u v : Option ℕ) {m n : ℕ} → constants u v ≡ Constants.Both m n → (u ≡ Some m) × (v ≡ Some n)
+both_constant None None e = let z : ◌≡◌ {A = ℕ} 0 1 = cc in absurd (omega arith)
+both_constant None (Some b) e = let z : ◌≡◌ {A = ℕ} 0 1 = cc in absurd (omega arith)
+both_constant (Some a) None e = let z : ◌≡◌ {A = ℕ} 0 1 = cc in absurd (omega arith)
+both_constant (Some a) (Some b) e = (cc, cc)
 
 -- THE OPERANDS OF A FOLD: constants are values, whatever the assignment
 
@@ -53,7 +52,7 @@ nowhere_fits : FittingValues nowhere
 unfolding nowhere
 nowhere_fits word payload = pow_pos (8 * size_of word)
 
-constant_value : (t : Tree) (n : ℕ) → Sized t → constant_of t ≡ some n → value nowhere t ≡ n
+constant_value : (t : Tree) (n : ℕ) → Sized t → constant_of t ≡ Some n → value nowhere t ≡ n
 constant_value t n ok e = (rw e at (constant_shows nowhere t ok)).0
 
 module _ {words : List ℕ} {count : ℕ} (live : Live words count) where

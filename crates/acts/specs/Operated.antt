@@ -1,10 +1,9 @@
 -- What a rule may rely on: the children of the node that it looks at lie in the arena, no Top is reached from them, and the node over
 -- them is well sized. Assumes nothing.
-use Rattle.std.specs.Prelude.{false, true, List, ◌≡◌, ℕ, ◌<◌}
+use Rattle.std.specs.Prelude.{false, true, List, ◌≡◌, ℕ, ◌<◌, None, Option, Some}
 use Rattle.arena.specs.Live.{tree_of}
 use Rattle.arith.specs.Operands.{Extension}
 use Rattle.format.specs.declared.Bin.{Bin}
-use Rattle.format.specs.declared.ChildSize.{ChildSize}
 use Rattle.format.specs.declared.Un.{Un}
 use Rattle.rules.specs.declared.View.{View}
 use Rattle.tree.specs.Form.{sized, un_sizing, bin_sizing, size_seen}
@@ -13,7 +12,7 @@ use Rattle.tree.specs.Tree.{has_top}
 pub record UnaryOver (words : List ℕ) (count : ℕ) (op : Un) (size a : ℕ) : Type 0 where
   pub below : a < count
   pub topless : has_top (tree_of count words a) ≡ false
-  pub sized_over : sized (un_sizing op) size 0 (size_seen (tree_of count words a)) ChildSize.Absent ≡ true
+  pub sized_over : sized (un_sizing op) size 0 (size_seen (tree_of count words a)) None ≡ true
 
 pub record BinaryOver (words : List ℕ) (count : ℕ) (op : Bin) (size a b : ℕ) : Type 0 where
   pub left_below : a < count

@@ -1,6 +1,5 @@
 -- What nodes and views show of a constant. Assumes nothing.
-use Rattle.std.specs.Prelude.{cond, List, ◌≡◌, refl, ℕ, ◌<◌}
-use Rattle.std.proofs.Math.Option.{Option, some, none}
+use Rattle.std.specs.Prelude.{cond, List, ◌≡◌, refl, ℕ, ◌<◌, None, Option, Some}
 use Rattle.std.proofs.Common.{ap, ◌∙◌}
 use Rattle.arena.specs.Live.{Live, tree_of, node_is_const}
 use Rattle.arena.specs.LiveLaws.{tree_of_node}
@@ -18,16 +17,16 @@ use Rattle.tree.specs.Arena.{node_at, build}
 use Rattle.tree.specs.Tree.{Tree, top, entry, const, bind, unary, binary}
 
 abbrev pub node_constant : Node → Option ℕ
-node_constant Node.Top = none
-node_constant (Node.Entry size space offset) = none
-node_constant (Node.Const size value) = some value
-node_constant (Node.Bind size id) = none
-node_constant (Node.Unary op size left) = none
-node_constant (Node.Binary op size left right) = none
+node_constant Node.Top = None
+node_constant (Node.Entry size space offset) = None
+node_constant (Node.Const size value) = Some value
+node_constant (Node.Bind size id) = None
+node_constant (Node.Unary op size left) = None
+node_constant (Node.Binary op size left right) = None
 
 -- a node that is a constant shows its payload, and another one nothing
 constant_of_shape : (word payload : ℕ) (shape : Shape) →
-    node_constant (shaped shape word payload) ≡ cond (node_is_const (shaped shape word payload)) (some payload) none
+    node_constant (shaped shape word payload) ≡ cond (node_is_const (shaped shape word payload)) (Some payload) None
 constant_of_shape word payload Shape.Top = refl
 constant_of_shape word payload Shape.Entry = refl
 constant_of_shape word payload Shape.Const = refl
@@ -36,20 +35,20 @@ constant_of_shape word payload (Shape.Unary op) = refl
 constant_of_shape word payload (Shape.Binary op) = refl
 
 pub payload_shown : (words : List ℕ) (i : ℕ) →
-    node_constant (node_at words i) ≡ cond (node_is_const (node_at words i)) (some (payload_at words i)) none
+    node_constant (node_at words i) ≡ cond (node_is_const (node_at words i)) (Some (payload_at words i)) None
 unfolding node_of
 payload_shown words i = constant_of_shape (header_at words i) (payload_at words i) (shape_of (kind_of (header_at words i)))
 
 abbrev pub view_constant : View → Option ℕ
-view_constant (View.Constant v) = some v
-view_constant (View.Plus a) = none
-view_constant (View.Minus a) = none
-view_constant View.Negation = none
-view_constant (View.Extension c) = none
-view_constant View.Other = none
+view_constant (View.Constant v) = Some v
+view_constant (View.Plus a) = None
+view_constant (View.Minus a) = None
+view_constant View.Negation = None
+view_constant (View.Extension c) = None
+view_constant View.Other = None
 
 -- beside what is no constant a node of two children shows nothing
-pub no_bin_view : (op : Bin) → bin_view op none ≡ View.Other
+pub no_bin_view : (op : Bin) → bin_view op None ≡ View.Other
 no_bin_view Bin.Add = refl
 no_bin_view Bin.Sub = refl
 no_bin_view Bin.Mul = refl
@@ -74,15 +73,15 @@ constant_of_node tree (Node.Binary op s j k) = refl
 pub constant_at : {words : List ℕ} {count : ℕ} → Live words count → (i : ℕ) → i < count → constant_of (tree_of count words i) ≡ node_constant (node_at words i)
 constant_at {words} {count} l i h = ap constant_of (tree_of_node l i h (node_at words i) refl) ∙ constant_of_node (tree_of count words) (node_at words i)
 
-un_view_constant : (op : Un) (s : ℕ) → view_constant (un_view op s) ≡ none
+un_view_constant : (op : Un) (s : ℕ) → view_constant (un_view op s) ≡ None
 un_view_constant Un.SignExtend s = refl
 un_view_constant Un.Int2Comp s = refl
 
-bin_view_constant : (op : Bin) (c : Option ℕ) → view_constant (bin_view op c) ≡ none
-bin_view_constant Bin.Add none = refl
-bin_view_constant Bin.Add (some a) = refl
-bin_view_constant Bin.Sub none = refl
-bin_view_constant Bin.Sub (some a) = refl
+bin_view_constant : (op : Bin) (c : Option ℕ) → view_constant (bin_view op c) ≡ None
+bin_view_constant Bin.Add None = refl
+bin_view_constant Bin.Add (Some a) = refl
+bin_view_constant Bin.Sub None = refl
+bin_view_constant Bin.Sub (Some a) = refl
 bin_view_constant Bin.Mul c = refl
 bin_view_constant Bin.Xor c = refl
 bin_view_constant Bin.Or c = refl

@@ -1,8 +1,7 @@
 -- A product modulo P * P from the halves of its factors, digits in base P. Assumes nothing.
 use Rattle.std.proofs.Common.{◌≡◌, ℕ, ◌+◌, ◌*◌, ◌/◌, ◌%◌, ◌^◌, ◌<◌, sym, ap, ◌∙◌, lt_of_le_of_lt, le_of_lt, add_assoc, mul_assoc, mul_comm, add-mul, add_comm, mul-le-mul_left, mul-lt-mul_of_pos_right, div-add-mod', mul-add, mul_left_comm, pow_pos, pow-add}
 use mathlib.Core.Path.{subst⁻¹}
-use native.Mathlib.Nat.{add-mod-mod, add-mul-mod_self_right}
-use native.Mathlib.Nat.{add_left_comm}
+use native.Mathlib.Nat.{add-mod-mod, add-mul-mod_self_right, add_left_comm}
 use lib.Bits.{bit_and, and_mask}
 use lib.Pow.{split}
 use Rattle.manual.specs.Operations.{int_add, int_mult}

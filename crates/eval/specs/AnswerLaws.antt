@@ -1,6 +1,5 @@
 -- A node's answer from its children's, and what their values are fit for. Assumes nothing.
-use Rattle.std.specs.Prelude.{false, List, ◌≡◌, refl, ℕ, ◌<◌}
-use Rattle.std.proofs.Math.Option.{Option, some, none}
+use Rattle.std.specs.Prelude.{false, List, ◌≡◌, refl, ℕ, ◌<◌, None, Option, Some}
 use Rattle.std.proofs.Math.Path.{ap, ap₂}
 use Rattle.std.proofs.Common.{sym, ◌∙◌, arith}
 use Rattle.arena.specs.Live.{tree_of}
@@ -44,30 +43,30 @@ pub found_answer : (rows : List ℕ) (word payload i v : ℕ) → Found.At v ≡
 found_answer rows word payload i v = by_row (found rows word payload)
   where
     by_row : (row : Option ℕ) → Found.At v ≡ found_of row → Answer.Value v ≡ input_answer i row
-    by_row none e = let z : ◌≡◌ {A = ℕ} 0 1 = cc in absurd (omega arith)
-    by_row (some w) e = let z : v ≡ w = cc in ap Answer.Value z
+    by_row None e = let z : ◌≡◌ {A = ℕ} 0 1 = cc in absurd (omega arith)
+    by_row (Some w) e = let z : v ≡ w = cc in ap Answer.Value z
 
 pub nothing_answer : (rows : List ℕ) (word payload i : ℕ) → Found.Nothing ≡ found_of (found rows word payload) →
     Answer.Missing i ≡ input_answer i (found rows word payload)
 nothing_answer rows word payload i = by_row (found rows word payload)
   where
     by_row : (row : Option ℕ) → Found.Nothing ≡ found_of row → Answer.Missing i ≡ input_answer i row
-    by_row none e = refl
-    by_row (some w) e = let z : ◌≡◌ {A = ℕ} 0 1 = cc in absurd (omega arith)
+    by_row None e = refl
+    by_row (Some w) e = let z : ◌≡◌ {A = ℕ} 0 1 = cc in absurd (omega arith)
 
 answered_input : (i : ℕ) (row : Option ℕ) → answered (unless_found row i) (or_zero row) ≡ input_answer i row
-answered_input i none = refl
-answered_input i (some v) = refl
+answered_input i None = refl
+answered_input i (Some v) = refl
 
 answered_one : (op : Un) (s c : ℕ) (m : Option ℕ) (x : ℕ) → answered m (un_value op s c x) ≡ over_one op s c (answered m x)
-answered_one op s c none x = refl
-answered_one op s c (some j) x = refl
+answered_one op s c None x = refl
+answered_one op s c (Some j) x = refl
 
 answered_two : (op : Bin) (s c : ℕ) (m n : Option ℕ) (x y : ℕ) →
     answered (first_of m n) (bin_value op s c x y) ≡ over_two op s c (answered m x) (answered n y)
-answered_two op s c none none x y = refl
-answered_two op s c none (some j) x y = refl
-answered_two op s c (some j) n x y = refl
+answered_two op s c None None x y = refl
+answered_two op s c None (Some j) x y = refl
+answered_two op s c (Some j) n x y = refl
 
 module _ (rows : List ℕ) (tree : ℕ → Tree) (miss : ℕ → Option ℕ) where
   abbrev answer : ℕ → Answer
@@ -86,13 +85,13 @@ module _ (rows : List ℕ) (tree : ℕ → Tree) (miss : ℕ → Option ℕ) whe
 -- OPERANDS
 
 fits_answered : (s c : ℕ) (m : Option ℕ) (x : ℕ) → Extension c s x → OperandFits s c (answered m x)
-fits_answered s c none x fits = fits
-fits_answered s c (some j) x fits = tt
+fits_answered s c None x fits = fits
+fits_answered s c (Some j) x fits = tt
 
 fit_answered : (rule : Sizing) (s c : ℕ) (m n : Option ℕ) (x y : ℕ) → Fitting rule s c x y → OperandsFit rule s c (answered m x) (answered n y)
-fit_answered rule s c none none x y fit = fit
-fit_answered rule s c none (some j) x y fit = tt
-fit_answered rule s c (some j) n x y fit = tt
+fit_answered rule s c None None x y fit = fit
+fit_answered rule s c None (Some j) x y fit = tt
+fit_answered rule s c (Some j) n x y fit = tt
 
 -- OF AN ARENA
 

@@ -1,6 +1,5 @@
 -- What the functions of evaluation answer, and what they ask. Assumes nothing: these are definitions.
-use Rattle.std.specs.Prelude.{false, List, ◌≡◌, ℕ, ◌<◌}
-use Rattle.std.proofs.Math.Option.{Option, some, none}
+use Rattle.std.specs.Prelude.{false, List, ◌≡◌, ℕ, ◌<◌, Err, None, Ok, Option, Result, Some}
 use Rattle.arena.specs.Live.{Live, tree_of}
 use Rattle.arith.specs.Operands.{Extension}
 use Rattle.eval.specs.declared.rows.Found.{Found}
@@ -11,29 +10,29 @@ use Rattle.format.specs.declared.Sizing.{Sizing}
 use Rattle.format.specs.declared.Un.{Un}
 use Rattle.tree.specs.Arena.{nodes_of}
 use Rattle.tree.specs.Meaning.{un_value, bin_value, value}
-use Rattle.tree.specs.Rows.{bad_row, assigned, missing, valued, topless, rowed}
+use Rattle.tree.specs.Rows.{bad_row, assigned, missing, valued, topless, rowed, Evaluated}
 use Rattle.tree.specs.Tree.{has_top}
-use Rattle.tree.specs.declared.Evaluated.{Evaluated}
+use Rattle.tree.specs.declared.EvaluateError.{EvaluateError}
 use Rattle.values.specs.Operands.{Fitting}
 
 -- an option, as the code has it
 abbrev pub place_of : Option ℕ → Place
-place_of none = Place.Nowhere
-place_of (some j) = Place.At j
+place_of None = Place.Nowhere
+place_of (Some j) = Place.At j
 
 abbrev pub found_of : Option ℕ → Found
-found_of none = Found.Nothing
-found_of (some v) = Found.At v
+found_of None = Found.Nothing
+found_of (Some v) = Found.At v
 
 -- input i, by its row
 abbrev pub input_answer : ℕ → Option ℕ → Answer
-input_answer i none = Answer.Missing i
-input_answer i (some v) = Answer.Value v
+input_answer i None = Answer.Missing i
+input_answer i (Some v) = Answer.Value v
 
 -- the first input that is missing, or else the value
 abbrev pub answered : Option ℕ → ℕ → Answer
-answered none v = Answer.Value v
-answered (some i) v = Answer.Missing i
+answered None v = Answer.Value v
+answered (Some i) v = Answer.Missing i
 
 unfoldable pub answer_at : List ℕ → (count : ℕ) → List ℕ → ℕ → Answer
 answer_at words count rows i = answered (missing rows (nodes_of count words) i) (value (assigned rows) (tree_of count words i))
@@ -64,7 +63,7 @@ pub record Evaluable (words : List ℕ) (count : ℕ) (rows : List ℕ) (i : ℕ
   pub live : Live words count
   pub below : i < count
   pub topless : has_top (tree_of count words i) ≡ false
-  pub rows_good : bad_row rows ≡ none
+  pub rows_good : bad_row rows ≡ None
 
 -- what evaluation answers past the check
 unfoldable pub evaluated_live : List ℕ → (count root : ℕ) → List ℕ → Evaluated

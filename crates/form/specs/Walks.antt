@@ -1,5 +1,5 @@
 -- A walk over the tree under a node, from the node to its children: the budget that is left and the path that is left. Assumes nothing.
-use Rattle.std.specs.Prelude.{List, ◌≡◌, ℕ, ◌+◌, ◌-◌, ◌≤◌, ◌<◌}
+use Rattle.std.specs.Prelude.{List, ◌≡◌, ℕ, ◌+◌, ◌-◌, ◌≤◌, ◌<◌, Err, Ok, Result}
 use Rattle.std.proofs.Common.{arith, le-leb}
 use Rattle.std.proofs.lemmas.Bool.{lt-leb}
 use Rattle.arena.specs.Live.{tree_of}
@@ -9,9 +9,9 @@ use Rattle.form.specs.declared.limits.Children.{Children}
 use Rattle.format.specs.Limits.{max_path, max_unfolded}
 use Rattle.theory.specs.Falls.{path_positive}
 use Rattle.tree.specs.Arena.{node_at}
-use Rattle.tree.specs.Form.{limited}
+use Rattle.tree.specs.Form.{limited, Verdict}
 use Rattle.tree.specs.Tree.{Tree, nodes, path}
-use Rattle.tree.specs.declared.Verdict.{Verdict}
+use Rattle.tree.specs.declared.Refusal.{Refusal}
 
 pub nothing_left : (budget : ℕ) → budget ≡ 0 → (t : Tree) → 0 ≡ budget - nodes t
 nothing_left budget none t = omega arith
@@ -61,16 +61,16 @@ module _ {words : List ℕ} {count i : ℕ} (at : Within words count i) where
 
 -- the limits, by what the two walks leave
 module _ (t : Tree) where
-  pub too_many : (spent : ℕ) → spent ≡ max_unfolded + 1 - nodes t → spent ≡ 0 → Verdict.TooManyNodes ≡ limited t
+  pub too_many : (spent : ℕ) → spent ≡ max_unfolded + 1 - nodes t → spent ≡ 0 → Err Refusal.TooManyNodes ≡ limited t
   too_many spent is none = rw (lt-leb (nodes t) max_unfolded (omega arith))
 
   module _ (rest : ℕ) (over : rest ≡ left_over (nodes t) (path t) (max_unfolded + 1) max_path) where
-    pub passed : 0 < rest → Verdict.Passed ≡ limited t
+    pub passed : 0 < rest → Ok tt ≡ limited t
     passed some =
         let kept = some_left (nodes t) (path t) max_unfolded max_path (rw over at some) in
         rw (le-leb (nodes t) max_unfolded kept.0, le-leb (path t) max_path kept.1)
 
-    pub too_long : rest ≤ 0 → (spent : ℕ) → spent ≡ max_unfolded + 1 - nodes t → (spent ≡ 0 → ⊥) → Verdict.PathTooLong ≡ limited t
+    pub too_long : rest ≤ 0 → (spent : ℕ) → spent ≡ max_unfolded + 1 - nodes t → (spent ≡ 0 → ⊥) → Err Refusal.PathTooLong ≡ limited t
     too_long none spent is some =
         let few : nodes t ≤ max_unfolded = omega arith in
         let long = none_left (nodes t) (path t) max_unfolded max_path (rw over at none) few in

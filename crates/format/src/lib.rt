@@ -56,13 +56,6 @@ pub struct Row {
     pub sizing: Sizing,
 }
 
-// The size that a node's rule sees of a child. A child that is Top, or that the kind does not have, shows none.
-#[derive(Clone, Copy)]
-pub enum ChildSize {
-    Absent,
-    Bytes(u64),
-}
-
 // A node with its fields: sizes in bytes, and children as indices.
 #[derive(Clone, Copy)]
 pub enum Node {

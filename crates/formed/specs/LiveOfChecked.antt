@@ -1,5 +1,5 @@
 -- An arena that passes the check is live, and a live one within the limits passes. Assumes nothing.
-use Rattle.std.specs.Prelude.{List, ◌≡◌, ℕ, ◌^◌, ◌≤◌, ◌<◌, length, get_or}
+use Rattle.std.specs.Prelude.{List, ◌≡◌, ℕ, ◌^◌, ◌≤◌, ◌<◌, length, get_or, Ok}
 use Rattle.std.proofs.Common.{subst, le-leb, lt-ltb}
 use Rattle.arena.specs.Live.{Live, Good, tree_of}
 use Rattle.format.specs.Limits.{capacity, max_path, max_unfolded}
@@ -9,7 +9,6 @@ use Rattle.formed.specs.Scan.{WellMade, scan_passed, scan_passes}
 use Rattle.formed.specs.SizedTrees.{trees_sized, well_sized_of_tree}
 use Rattle.tree.specs.Form.{scanned, checked}
 use Rattle.tree.specs.Tree.{nodes, path}
-use Rattle.tree.specs.declared.Verdict.{Verdict}
 
 -- what the check lets through
 pub record Admitted (words : List ℕ) (count root : ℕ) : Type 0 where
@@ -25,10 +24,10 @@ module _ (words : List ℕ) (count : ℕ) (narrow : (k : ℕ) → get_or words k
       let good : (i : ℕ) → i < count → Good words i = λ i h. good_of_well_made words narrow i (made i h) in
       record { room = room; good = good; sized = trees_sized words count good (λ i h. (made i h).sized) }
 
-  pub live_of_scan : count ≤ capacity (length words) → scanned words count 0 ≡ Verdict.Passed → Live words count
+  pub live_of_scan : count ≤ capacity (length words) → scanned words count 0 ≡ Ok tt → Live words count
   live_of_scan room e = live_of_made room (scan_passed words count e)
 
-  pub live_of_checked : (root : ℕ) → checked words count root ≡ Verdict.Passed → Admitted words count root
+  pub live_of_checked : (root : ℕ) → checked words count root ≡ Ok tt → Admitted words count root
   live_of_checked root e =
       let p : Passing words count root = subst (Line words count root) e (line_holds words count root) in
       record {
@@ -46,10 +45,10 @@ made_of_live {words} {count} live i h =
     }
 
 -- and the other way, for whatever words
-pub scan_of_live : {words : List ℕ} {count : ℕ} → Live words count → scanned words count 0 ≡ Verdict.Passed
+pub scan_of_live : {words : List ℕ} {count : ℕ} → Live words count → scanned words count 0 ≡ Ok tt
 scan_of_live {words} {count} live = scan_passes words count (made_of_live live)
 
-pub checked_of_live : {words : List ℕ} {count root : ℕ} → Admitted words count root → checked words count root ≡ Verdict.Passed
+pub checked_of_live : {words : List ℕ} {count root : ℕ} → Admitted words count root → checked words count root ≡ Ok tt
 unfolding checked
 checked_of_live {words} {count} {root} a =
     rw (

@@ -1,5 +1,5 @@
 -- The rule of sizes over words is the rule over trees. Assumes nothing.
-use Rattle.std.specs.Prelude.{Bool, true, false, cond, List, ◌≡◌, refl, ℕ, zero, suc, ◌<◌, eqb, leb}
+use Rattle.std.specs.Prelude.{Bool, true, false, cond, List, ◌≡◌, refl, ℕ, zero, suc, ◌<◌, eqb, leb, None, Option, Some}
 use Rattle.std.proofs.Common.{ap, sym, ◌∙◌, arith, ne_eqb}
 use Rattle.arena.specs.Live.{Good, tree_of, node_size}
 use Rattle.format.specs.Header.{kind_of, size_of}
@@ -9,7 +9,6 @@ use Rattle.format.specs.Kinds.{row_of}
 use Rattle.format.specs.Limits.{header_at, payload_at}
 use Rattle.format.specs.Nodes.{header_of, payload_of, Narrow}
 use Rattle.format.proofs.NodesOfWords.{narrow_of_words}
-use Rattle.format.specs.declared.ChildSize.{ChildSize}
 use Rattle.format.specs.declared.Node.{Node}
 use Rattle.format.specs.declared.Shape.{Shape}
 use Rattle.formed.specs.NodeFields.{node_shape, node_left, node_right, fields_of_node, line_of_shape}
@@ -30,7 +29,7 @@ not_top shape other = ne_eqb (number_of shape) 0 (λ e. other (same_number shape
 
 -- what a node shows as a child, by its number: only Top's is 0
 seen_by_number : (tree : ℕ → Tree) (node : Node) →
-    cond (eqb (number_of (node_shape node)) 0) ChildSize.Absent (ChildSize.Bytes (node_size node)) ≡ size_seen (build tree node)
+    cond (eqb (number_of (node_shape node)) 0) None (Some (node_size node)) ≡ size_seen (build tree node)
 seen_by_number tree Node.Top = refl
 seen_by_number tree (Node.Entry s space offset) = refl
 seen_by_number tree (Node.Const s value) = refl
@@ -41,7 +40,7 @@ seen_by_number tree (Node.Binary op s left right) = rw (not_top (Shape.Binary op
 -- words that are a node's
 module _ (words : List ℕ) (word payload : ℕ) (node : Node) (narrow : Narrow node) (header_is : header_of node ≡ word) where
   seen_by_node : (tree : ℕ → Tree) →
-      cond (eqb (kind_of word) 0) ChildSize.Absent (ChildSize.Bytes (size_of word)) ≡ size_seen (build tree node)
+      cond (eqb (kind_of word) 0) None (Some (size_of word)) ≡ size_seen (build tree node)
   seen_by_node tree =
       let f = fields_of_node node narrow in
       rw (← header_is, f.kind_is, f.size_is) (seen_by_number tree node)
@@ -61,9 +60,9 @@ module _ (words : List ℕ) (tree : ℕ → Tree) (i : ℕ) (seen : (j : ℕ) �
   sized_tree (Node.Const s value) narrow b deep e = e
   sized_tree (Node.Bind s id) narrow b deep e = e
   sized_tree (Node.Unary op s left) narrow b deep e =
-      (sym (ap (λ (c : ChildSize). sized (un_sizing op) s 0 c ChildSize.Absent) (seen left b)) ∙ e, deep left b)
+      (sym (ap (λ (c : Option ℕ). sized (un_sizing op) s 0 c None) (seen left b)) ∙ e, deep left b)
   sized_tree (Node.Binary op s left right) narrow b deep e =
-      let l = ap (λ (c : ChildSize). sized (bin_sizing op) s 0 c (child_size words true right)) (seen left b.0) in
+      let l = ap (λ (c : Option ℕ). sized (bin_sizing op) s 0 c (child_size words true right)) (seen left b.0) in
       let r = ap (sized (bin_sizing op) s 0 (size_seen (tree left))) (seen right b.1) in
       (sym (l ∙ r) ∙ e, deep left b.0, deep right b.1)
 
@@ -74,9 +73,9 @@ module _ (words : List ℕ) (tree : ℕ → Tree) (i : ℕ) (seen : (j : ℕ) �
   sized_node (Node.Const s value) b e = e
   sized_node (Node.Bind s id) b e = e
   sized_node (Node.Unary op s left) b e =
-      ap (λ (c : ChildSize). sized (un_sizing op) s 0 c ChildSize.Absent) (seen left b) ∙ e.0
+      ap (λ (c : Option ℕ). sized (un_sizing op) s 0 c None) (seen left b) ∙ e.0
   sized_node (Node.Binary op s left right) b e =
-      ap (λ (c : ChildSize). sized (bin_sizing op) s 0 c (child_size words true right)) (seen left b.0)
+      ap (λ (c : Option ℕ). sized (bin_sizing op) s 0 c (child_size words true right)) (seen left b.0)
       ∙ ap (sized (bin_sizing op) s 0 (size_seen (tree left))) (seen right b.1)
       ∙ e.0
 

@@ -2,8 +2,7 @@
 use Rattle.std.specs.Prelude.{ℕ, ◌+◌, ◌-◌, ◌^◌, ◌<◌, ltb}
 use Rattle.std.proofs.Common.{⊎_elim, arith}
 use Rattle.std.proofs.Math.Pow.{pow-sub-lt}
-use Rattle.manual.specs.Operations.{int_sright}
-use Rattle.manual.specs.Operations.{int_carry}
+use Rattle.manual.specs.Operations.{int_sright, int_carry}
 use Rattle.manual.specs.Halves.{below_or}
 use Rattle.manual.proofs.Halves.{int_sright_lower, int_sright_upper}
 use Rattle.manual.specs.Fits.{chosen, int_right_fits}

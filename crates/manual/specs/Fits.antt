@@ -4,8 +4,7 @@ use Rattle.std.specs.Prelude.{Bool, true, false, cond, ℕ, ◌+◌, ◌-◌, �
 use Rattle.std.proofs.Common.{⊎_elim, mod-lt, lt_of_le_of_lt, arith, pow_mono, pow_pos}
 use Rattle.std.proofs.lemmas.Nat.{or_lt, xor_lt, shr_le}
 use Rattle.std.specs.Int.Signed.{mag}
-use Rattle.manual.specs.Operations.{int_add, int_sub, int_mult, int_2comp, int_xor, int_or, int_left, int_right, int_sext}
-use Rattle.manual.specs.Operations.{int_scarry, int_sborrow, signed, unfit}
+use Rattle.manual.specs.Operations.{int_add, int_sub, int_mult, int_2comp, int_xor, int_or, int_left, int_right, int_sext, int_scarry, int_sborrow, signed, unfit}
 use Rattle.manual.specs.Halves.{below_or, int_sext_lower, int_sext_upper}
 
 pub int_add_fits : (w a b : ℕ) → int_add w a b < 2 ^ w

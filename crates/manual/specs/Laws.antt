@@ -8,8 +8,7 @@ use Rattle.std.proofs.Math.Nat.{zero-min, zero-mod, add-mod_right, mod_self}
 use Rattle.std.proofs.lemmas.Nat.{and_mask, or_comm, xor_comm}
 use Rattle.std.specs.Int.Bits.{or_add_and, or_self, or_zero_r, xor_self, xor_zero_r}
 use Rattle.std.proofs.Math.IntN.{+ℤ_invr}
-use Rattle.manual.specs.Operations.{int_add, int_sub, int_mult, int_2comp, int_xor, int_or, int_left, int_right, int_sext}
-use Rattle.manual.specs.Operations.{int_sborrow, signed, unfit}
+use Rattle.manual.specs.Operations.{int_add, int_sub, int_mult, int_2comp, int_xor, int_or, int_left, int_right, int_sext, int_sborrow, signed, unfit}
 use Rattle.manual.specs.Modulo.{same_remainder, remainder}
 use Rattle.manual.specs.Halves.{below_or, two_halves, int_sext_lower, int_sext_upper}
 

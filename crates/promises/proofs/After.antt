@@ -1,5 +1,5 @@
 -- What a call of simplify that was done leaves: the run's nodes, in words that are live and of 64 bits. Assumes nothing.
-use Rattle.std.specs.Prelude.{List, ◌⊎◌, ◌≡◌, refl, ℕ, ◌+◌, ◌*◌, ◌/◌, ◌^◌, ◌≤◌, ◌<◌, length, get_or}
+use Rattle.std.specs.Prelude.{List, ◌⊎◌, ◌≡◌, refl, ℕ, ◌+◌, ◌*◌, ◌/◌, ◌^◌, ◌≤◌, ◌<◌, length, get_or, Ok}
 use Rattle.std.proofs.Common.{inl, inr, ap, ap₂, sym, ◌∙◌, arith, ext_get_or}
 use Rattle.std.proofs.Math.Decide.{dec_lt}
 use Rattle.arena.specs.Live.{Live, Good, tree_of}
@@ -14,9 +14,8 @@ use Rattle.promises.specs.Answers.{Fitted}
 use Rattle.promises.proofs.Answers.{simplified_exactly}
 use Rattle.promises.specs.Headers.{narrow_of_sized, header_word, second_or_first}
 use Rattle.promises.specs.Words.{Words64, appended_length, appended_keeps, appended_leaves, appended_header, appended_payload}
-use Rattle.rules.specs.Call.{ran_on, appended_words, words_after}
+use Rattle.rules.specs.Call.{ran_on, appended_words, words_after, done}
 use Rattle.rules.specs.Run.{Out}
-use Rattle.rules.specs.declared.Simplified.{Simplified}
 use Rattle.theory.specs.Simulation.{Stands}
 use Rattle.theory.proofs.Simulation.{simplified_stands}
 use Rattle.theory.specs.SizedRun.{Storable}
@@ -25,18 +24,17 @@ use Rattle.theory.specs.TreeRun.{reduced}
 use Rattle.tree.specs.Arena.{node_at, nodes_of, at, tree_at}
 use Rattle.tree.specs.ArenaLaws.{length-nodes_of, at-nodes_of, tree_eq}
 use Rattle.tree.specs.Form.{checked}
-use Rattle.tree.specs.declared.Verdict.{Verdict}
 use Rattle.promises.specs.After.{DoneCall}
 
 -- with enough room a call on what passes the check is one
-pub with_room : (words : List ℕ) (count root : ℕ) → Words64 words → checked words count root ≡ Verdict.Passed →
+pub with_room : (words : List ℕ) (count root : ℕ) → Words64 words → checked words count root ≡ Ok tt →
     length (ran_on words count root).arena ≤ capacity (length words) →
     DoneCall words count root (ran_on words count root).index (length (ran_on words count root).arena)
 with_room words count root words64 passes room = record {
   words64 = words64;
   answer =
-      (simplified_exactly words count root (Simplified.Done (ran_on words count root).index (length (ran_on words count root).arena))).1
-      (record { passing = (checked_exactly words count root Verdict.Passed).0 passes; enough = room; root_is = refl; count_is = refl });
+      (simplified_exactly words count root (done (ran_on words count root).index (length (ran_on words count root).arena))).1
+      (record { passing = (checked_exactly words count root (Ok tt)).0 passes; enough = room; root_is = refl; count_is = refl });
 }
 
 module _ {words : List ℕ} {count root root' m : ℕ} (call : DoneCall words count root root' m) where
@@ -47,12 +45,12 @@ module _ {words : List ℕ} {count root root' m : ℕ} (call : DoneCall words co
   after = words_after words count root
 
   pub fitted : Fitted words count root root' m
-  fitted = (simplified_exactly words count root (Simplified.Done root' m)).0 call.answer
+  fitted = (simplified_exactly words count root (done root' m)).0 call.answer
 
   -- BEFORE
 
   pub admitted : Admitted words count root
-  admitted = live_of_checked words count call.words64 root ((checked_exactly words count root Verdict.Passed).1 fitted.passing)
+  admitted = live_of_checked words count call.words64 root ((checked_exactly words count root (Ok tt)).1 fitted.passing)
 
   inside : root < length (nodes_of count words)
   inside = in_arena admitted.live root admitted.root_below

@@ -1,5 +1,5 @@
 -- Simplifying what was simplified returns the same root and appends nothing, wherever it lies. Assumes nothing.
-use Rattle.std.specs.Prelude.{List, ◌≡◌, refl, ℕ, ◌+◌, ◌*◌, ◌≤◌, ◌<◌, length, get_or}
+use Rattle.std.specs.Prelude.{List, ◌≡◌, refl, ℕ, ◌+◌, ◌*◌, ◌≤◌, ◌<◌, length, get_or, Ok}
 use Rattle.std.proofs.Common.{ap, ap₂, sym, ◌∙◌, le_refl, arith, take-append-drop, drop_of_length-le}
 use Rattle.arena.specs.Live.{Good, tree_of}
 use Rattle.arena.specs.LiveLaws.{live_ordered, in_arena}
@@ -12,16 +12,14 @@ use Rattle.promises.proofs.Check.{admitted_after, passes_after}
 use Rattle.promises.specs.After.{DoneCall}
 use Rattle.promises.proofs.After.{live_after, tree_after, words64_after}
 use Rattle.promises.specs.Words.{Words64}
-use Rattle.rules.specs.Call.{ran_on, appended_words, simplified_answer, words_after}
+use Rattle.rules.specs.Call.{ran_on, appended_words, simplified_answer, words_after, done}
 use Rattle.rules.specs.Run.{Out, out, weight}
-use Rattle.rules.specs.declared.Simplified.{Simplified}
 use Rattle.theory.specs.Normal.{Normal}
 use Rattle.theory.proofs.Reduced.{reduced_normal}
 use Rattle.theory.specs.Simulation.{run_on_normal}
 use Rattle.tree.specs.Arena.{node_at, nodes_of}
 use Rattle.tree.specs.ArenaLaws.{length-nodes_of, nodes_of_cong}
 use Rattle.tree.specs.Form.{checked}
-use Rattle.tree.specs.declared.Verdict.{Verdict}
 
 -- nothing appended leaves the words as they were
 nothing_appended : (words : List ℕ) (count root : ℕ) → appended_words words count (out (nodes_of count words) root) ≡ words
@@ -30,16 +28,16 @@ nothing_appended words count root =
     (take-append-drop (node_words * count) words)
 
 -- A NORMAL TREE is handed back as it is
-module _ (words : List ℕ) (count root : ℕ) (words64 : Words64 words) (passed : checked words count root ≡ Verdict.Passed) (normal : Normal (tree_of count words root)) where
+module _ (words : List ℕ) (count root : ℕ) (words64 : Words64 words) (passed : checked words count root ≡ Ok tt) (normal : Normal (tree_of count words root)) where
   ran_nowhere : ran_on words count root ≡ out (nodes_of count words) root
   ran_nowhere =
       let a = live_of_checked words count words64 root passed in
       run_on_normal (nodes_of count words) (live_ordered a.live) (weight (tree_of count words root)) root (in_arena a.live root a.root_below) normal
 
-  pub normal_answer : simplified_answer words count root ≡ Simplified.Done root count
+  pub normal_answer : simplified_answer words count root ≡ done root count
   normal_answer =
-      let p = (checked_exactly words count root Verdict.Passed).0 passed in
-      (simplified_exactly words count root (Simplified.Done root count)).1
+      let p = (checked_exactly words count root (Ok tt)).0 passed in
+      (simplified_exactly words count root (done root count)).1
       (record {
         passing = p;
         enough = p.room;
@@ -53,20 +51,20 @@ module _ (words : List ℕ) (count root : ℕ) (words64 : Words64 words) (passed
 
 module _ {words : List ℕ} {count root root' m : ℕ} (call : DoneCall words count root root' m) where
   -- a simplified tree in any words
-  module _ (other : List ℕ) (n i : ℕ) (words64 : Words64 other) (passed : checked other n i ≡ Verdict.Passed)
+  module _ (other : List ℕ) (n i : ℕ) (words64 : Words64 other) (passed : checked other n i ≡ Ok tt)
       (same : tree_of n other i ≡ tree_of m (words_after words count root) root') where
     normal_there : Normal (tree_of n other i)
     normal_there = rw (same, tree_after call) (reduced_normal (tree_of count words root))
 
     -- DEMAND 3: simplifying it again returns the same root and appends nothing
-    pub stays_anywhere : simplified_answer other n i ≡ Simplified.Done i n
+    pub stays_anywhere : simplified_answer other n i ≡ done i n
     stays_anywhere = normal_answer other n i words64 passed normal_there
 
     pub words_stay_anywhere : words_after other n i ≡ other
     words_stay_anywhere = normal_words other n i words64 passed normal_there
 
   -- DEMAND 3: so does simplifying the result again
-  pub again_answer : simplified_answer (words_after words count root) m root' ≡ Simplified.Done root' m
+  pub again_answer : simplified_answer (words_after words count root) m root' ≡ done root' m
   again_answer = stays_anywhere (words_after words count root) m root' (words64_after call) (passes_after call) refl
 
   pub again_words : words_after (words_after words count root) m root' ≡ words_after words count root
@@ -90,7 +88,7 @@ module _ {words : List ℕ} {count root root' m : ℕ} (call : DoneCall words co
           below = rw (node_same j h) g.below;
         }
 
-    passes_there : checked other m root' ≡ Verdict.Passed
+    passes_there : checked other m root' ≡ Ok tt
     passes_there =
         let a = admitted_after call in
         checked_of_live (record {
@@ -103,7 +101,7 @@ module _ {words : List ℕ} {count root root' m : ℕ} (call : DoneCall words co
     same_there : tree_of m other root' ≡ tree_of m (words_after words count root) root'
     same_there = rw nodes_same
 
-    pub again_in_any_slice : simplified_answer other m root' ≡ Simplified.Done root' m
+    pub again_in_any_slice : simplified_answer other m root' ≡ done root' m
     again_in_any_slice = stays_anywhere other m root' words64 passes_there same_there
 
     pub again_words_in_any_slice : words_after other m root' ≡ other

@@ -1,5 +1,5 @@
 -- What a done call has left passes the check; the tree has no more nodes and no longer path than before. Assumes nothing.
-use Rattle.std.specs.Prelude.{List, ◌≡◌, ℕ, ◌≤◌}
+use Rattle.std.specs.Prelude.{List, ◌≡◌, ℕ, ◌≤◌, Ok}
 use Rattle.std.proofs.Common.{le_trans}
 use Rattle.arena.specs.Live.{tree_of}
 use Rattle.formed.specs.LiveOfChecked.{Admitted, checked_of_live}
@@ -9,7 +9,6 @@ use Rattle.rules.specs.Call.{words_after}
 use Rattle.theory.proofs.Reduced.{reduced_nodes, reduced_path}
 use Rattle.tree.specs.Form.{checked}
 use Rattle.tree.specs.Tree.{nodes, path}
-use Rattle.tree.specs.declared.Verdict.{Verdict}
 
 module _ {words : List ℕ} {count root root' m : ℕ} (call : DoneCall words count root root' m) where
   pub no_more_nodes : nodes (tree_of m (words_after words count root) root') ≤ nodes (tree_of count words root)
@@ -27,5 +26,5 @@ module _ {words : List ℕ} {count root root' m : ℕ} (call : DoneCall words co
   }
 
   -- DEMAND 3: the simplified root always passes the check
-  pub passes_after : checked (words_after words count root) m root' ≡ Verdict.Passed
+  pub passes_after : checked (words_after words count root) m root' ≡ Ok tt
   passes_after = checked_of_live admitted_after

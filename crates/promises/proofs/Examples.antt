@@ -1,5 +1,5 @@
 -- The premises of the promises are met: each theorem, at words of 01's bench. Assumes nothing.
-use Rattle.std.specs.Prelude.{true, false, List, [], ◌∷◌, ◌++◌, ◌≡◌, refl, ℕ, ◌*◌, ◌^◌, ◌<◌, ltb, length, get_or}
+use Rattle.std.specs.Prelude.{true, false, List, [], ◌∷◌, ◌++◌, ◌≡◌, refl, ℕ, ◌*◌, ◌^◌, ◌<◌, ltb, length, get_or, Err, Ok}
 use Rattle.std.proofs.Common.{ap, sym, ◌∙◌, arith, ltb-true, lit≤}
 use Rattle.std.proofs.Math.Decide.{dec_lt, ℕ_discrete}
 use Rattle.std.proofs.Math.ListN.{get_or-append, get_or-eq_default}
@@ -20,18 +20,17 @@ use Rattle.promises.proofs.Promises.{answering, past_check, simplifying, alike}
 use Rattle.promises.specs.Room.{Cleared}
 use Rattle.promises.specs.Words.{Words64}
 use Rattle.rules.specs.Bench.{lent_for}
-use Rattle.rules.specs.Call.{ran_on, fits, ended, simplified_answer, words_after, simplified_number, simplified_count}
+use Rattle.rules.specs.Call.{ran_on, fits, ended, simplified_answer, words_after, simplified_number, simplified_count, done}
 use Rattle.rules.specs.Run.{run_for}
 use Rattle.rules.specs.Whole.{p1, seven, six}
 use Rattle.rules.proofs.Whole.{p1_answer, p1_words, p1_no_room}
-use Rattle.rules.specs.declared.Simplified.{Simplified}
 use Rattle.tree.specs.Arena.{nodes_of, tree_at}
 use Rattle.tree.specs.Form.{well_formed, well_sized, judged, scanned, checked}
 use Rattle.tree.specs.Meaning.{value}
 use Rattle.tree.specs.Rows.{good_row, bad_row_from, found_from, assigned, missing, evaluated, evaluated_number, evaluated_value}
 use Rattle.tree.specs.Tree.{const, size, is_top, has_top, un_discrete, bin_discrete, same}
-use Rattle.tree.specs.declared.Evaluated.{Evaluated}
-use Rattle.tree.specs.declared.Verdict.{Verdict}
+use Rattle.tree.specs.declared.EvaluateError.{EvaluateError}
+use Rattle.tree.specs.declared.Refusal.{Refusal}
 
 -- a list's words are of 64 bits if a test of each passes
 words64_by_test : (words : List ℕ) → every (λ k word. ltb word (2 ^ 64)) 0 words ≡ true → Words64 words
@@ -59,8 +58,8 @@ p1_is_40 : value (assigned answer42) (tree_of 5 seven 4) ≡ 40
 unfolding found_from tree_at node_of shape_of
 p1_is_40 = refl
 
-total_at_p1 : evaluated seven 5 4 answer42 ≡ Evaluated.Value 40
-total_at_p1 = (past_check p1_passed).total p1_topless answer42 p1_assigns ∙ ap Evaluated.Value p1_is_40
+total_at_p1 : evaluated seven 5 4 answer42 ≡ Ok 40
+total_at_p1 = (past_check p1_passed).total p1_topless answer42 p1_assigns ∙ ap Ok p1_is_40
 
 answer_fits_at_p1 : 40 < 2 ^ (8 * size (tree_of 5 seven 4))
 answer_fits_at_p1 = (past_check p1_passed).answer_in_size answer42 40 total_at_p1
@@ -90,14 +89,14 @@ size_at_p1 = p1_simplifying.size_kept p1_topless
 value_at_p1 : value (assigned answer42) (tree_of 7 (words_after seven 5 4) 6) ≡ 40
 value_at_p1 = p1_simplifying.value_kept p1_topless (assigned answer42) (assigned_fitting answer42 p1_assigns.no_bad_row) ∙ p1_is_40
 
-evaluation_at_p1 : evaluated (words_after seven 5 4) 7 6 answer42 ≡ Evaluated.Value 40
+evaluation_at_p1 : evaluated (words_after seven 5 4) 7 6 answer42 ≡ Ok 40
 evaluation_at_p1 = p1_simplifying.evaluation_kept answer42 40 total_at_p1 ∙ total_at_p1
 
 -- its nodes at the head of a slice with room for ten
 ten : List ℕ
 ten = words_after seven 5 4 ++ 1 ∷ 2 ∷ 3 ∷ 4 ∷ 5 ∷ []
 
-slice_at_p1 : simplified_answer ten 7 6 ≡ Simplified.Done 6 7
+slice_at_p1 : simplified_answer ten 7 6 ≡ done 6 7
 unfolding ten
 slice_at_p1 =
     p1_simplifying.any_slice ten (rw p1_words (words64_by_test (p1 (0x0201_0000_0000_0000 ∷ 2 ∷ 0x0501_0000_0005_0000 ∷ 0 ∷ 0xE ∷ 1 ∷ 2 ∷ 3 ∷ 4 ∷ 5 ∷ [])) refl))
@@ -107,7 +106,7 @@ slice_at_p1 =
 elsewhere : List ℕ
 elsewhere = lent_for (Node.Const 1 2 ∷ Node.Entry 1 3 0x10 ∷ Node.Binary Bin.Sub 1 1 0 ∷ [])
 
-anywhere_at_p1 : simplified_answer elsewhere 3 2 ≡ Simplified.Done 2 3
+anywhere_at_p1 : simplified_answer elsewhere 3 2 ≡ done 2 3
 unfolding elsewhere checked scanned judged well_formed well_sized row_of shape_of node_of tree_at
 anywhere_at_p1 = p1_simplifying.anywhere elsewhere 3 2 (words64_by_test elsewhere refl) refl (sym (ap (λ (words : List ℕ). tree_of 7 words 6) p1_words))
 
@@ -152,7 +151,7 @@ constant_at_p12 = (simplifying p12_call).constant_is refl refl (assigned answer4
 
 refusal_at_p1 : words_after seven 5 5 ≡ seven
 unfolding simplified_answer checked
-refusal_at_p1 = (answering seven 5 5).refusal_words Verdict.RootNotBelowCount refl
+refusal_at_p1 = (answering seven 5 5).refusal_words Refusal.RootNotBelowCount refl
 
 no_room_at_p1 : Cleared six (words_after six 5 4) 5
 no_room_at_p1 = (answering six 5 4).no_room_words p1_no_room
@@ -160,7 +159,7 @@ no_room_at_p1 = (answering six 5 4).no_room_words p1_no_room
 unmoved_at_p1 : simplified_count (simplified_answer six 5 4) 5 ≡ 5
 unmoved_at_p1 = ((answering six 5 4).unmoved (λ e. let z = sym (ap simplified_number p1_no_room) ∙ e in omega arith)).1
 
-cut_short : evaluated seven 5 4 (answer42 ++ 7 ∷ []) ≡ Evaluated.BadRow 1
+cut_short : evaluated seven 5 4 (answer42 ++ 7 ∷ []) ≡ Err (EvaluateError.BadRow 1)
 unfolding evaluated missing found_from bad_row_from good_row checked scanned judged well_formed well_sized row_of shape_of node_of tree_at
 cut_short = refl
 

@@ -1,6 +1,6 @@
 -- What the calls promise, gathered: every statement that docs/PROMISES.md names, over the definitions `checked`, `evaluated`,
 -- `simplified_answer` and `words_after`. The theorems are in proofs/Promises.antt, from the files beside it. Assumes nothing.
-use Rattle.std.specs.Prelude.{List, ◌≡◌, ℕ}
+use Rattle.std.specs.Prelude.{List, ◌≡◌, ℕ, Err}
 use Rattle.arena.specs.Live.{tree_of}
 use Rattle.formed.specs.Lines.{checked_exactly}
 use Rattle.promises.proofs.Again.{stays_anywhere, words_stay_anywhere, again_answer, again_words, again_in_any_slice, again_words_in_any_slice}
@@ -21,7 +21,7 @@ use Rattle.promises.proofs.Values.{same_size, same_value, same_evaluation}
 use Rattle.rules.specs.Call.{simplified_answer, words_after}
 use Rattle.tree.specs.Arena.{nodes_of}
 use Rattle.tree.specs.Rows.{evaluated}
-use Rattle.tree.specs.declared.Evaluated.{Evaluated}
+use Rattle.tree.specs.declared.EvaluateError.{EvaluateError}
 use Rattle.promises.specs.Promises.{Answering, Passed, PastCheck, Simplifying}
 
 pub answering : (words : List ℕ) (count root : ℕ) → Answering words count root
@@ -34,8 +34,8 @@ answering words count root = record {
   words64_kept = words64_always words count root;
   unmoved = root_and_count (simplified_answer words count root) count;
   valueless = λ rows. no_value (evaluated words count root rows);
-  bad_row = λ rows j e. bad_row_is_first rows j ((evaluated_exactly words count root rows (Evaluated.BadRow j)).0 e).1;
-  missing_input = λ rows i e. missing_is_first rows (nodes_of count words) root i ((evaluated_exactly words count root rows (Evaluated.InputMissing i)).0 e).3;
+  bad_row = λ rows j e. bad_row_is_first rows j ((evaluated_exactly words count root rows (Err (EvaluateError.BadRow j))).0 e).1;
+  missing_input = λ rows i e. missing_is_first rows (nodes_of count words) root i ((evaluated_exactly words count root rows (Err (EvaluateError.InputMissing i))).0 e).3;
 }
 
 pub past_check : {words : List ℕ} {count root : ℕ} → Passed words count root → PastCheck words count root

@@ -1,5 +1,5 @@
 -- Every word after a call of simplify: refusals leave all, no room clears the free ones, done appends. Assumes nothing.
-use Rattle.std.specs.Prelude.{List, ◌≡◌, refl, ℕ, ◌+◌, ◌*◌, ◌^◌, ◌<◌, length, get_or, drop}
+use Rattle.std.specs.Prelude.{List, ◌≡◌, refl, ℕ, ◌+◌, ◌*◌, ◌^◌, ◌<◌, length, get_or, drop, Err, Ok}
 use Rattle.std.proofs.Math.Decide.{dec_lt}
 use Rattle.std.proofs.Common.{le_refl, arith, length-drop}
 use Rattle.arena.specs.LiveLaws.{capacity_room}
@@ -8,16 +8,16 @@ use Rattle.promises.proofs.Answers.{simplified_exactly}
 use Rattle.promises.specs.After.{DoneCall}
 use Rattle.promises.proofs.After.{fitted, grown, room, after_is, after_length, after_kept, header_new, payload_new, words64_after}
 use Rattle.promises.specs.Words.{Words64, appended_leaves, cleared_length, cleared_keeps, cleared_zero, cleared_leaves}
-use Rattle.rules.specs.Call.{ran_on, simplified_answer, words_after}
-use Rattle.rules.specs.declared.Simplified.{Simplified}
+use Rattle.rules.specs.Call.{ran_on, simplified_answer, words_after, SimplifiedAnswer}
+use Rattle.rules.specs.declared.SimplifyError.{SimplifyError}
 use Rattle.promises.specs.Room.{Appended, Cleared, refused_alters_nothing}
 
 -- DEMAND 1: after "no room" the free words are zero
-pub no_room_clears : (words : List ℕ) (count root : ℕ) → simplified_answer words count root ≡ Simplified.NoRoom →
+pub no_room_clears : (words : List ℕ) (count root : ℕ) → simplified_answer words count root ≡ Err SimplifyError.NoRoom →
     Cleared words (words_after words count root) count
 unfolding words_after
 no_room_clears words count root e =
-    let fits = ((simplified_exactly words count root Simplified.NoRoom).0 e).0.room in
+    let fits = ((simplified_exactly words count root (Err SimplifyError.NoRoom)).0 e).0.room in
     let inside = capacity_room (length words) (capacity (length words)) (le_refl (capacity (length words))) in
     rw e (record {
       same_length = cleared_length words count fits inside;
@@ -56,7 +56,7 @@ cleared_words64 words after count c words64 k = go (dec_lt k (node_words * count
 pub words64_always : (words : List ℕ) (count root : ℕ) → Words64 words → Words64 (words_after words count root)
 words64_always words count root words64 = by_answer (simplified_answer words count root) refl
   where
-    by_answer : (answer : Simplified) → simplified_answer words count root ≡ answer → Words64 (words_after words count root)
-    by_answer (Simplified.Done root' m) e = words64_after (record { words64 = words64; answer = e })
-    by_answer (Simplified.Refused v) e = rw (refused_alters_nothing words count root v e) words64
-    by_answer Simplified.NoRoom e = cleared_words64 words (words_after words count root) count (no_room_clears words count root e) words64
+    by_answer : (answer : SimplifiedAnswer) → simplified_answer words count root ≡ answer → Words64 (words_after words count root)
+    by_answer (Ok to) e = words64_after (record { words64 = words64; answer = e })
+    by_answer (Err (SimplifyError.Refused refusal)) e = rw (refused_alters_nothing words count root refusal e) words64
+    by_answer (Err SimplifyError.NoRoom) e = cleared_words64 words (words_after words count root) count (no_room_clears words count root e) words64

@@ -1,5 +1,5 @@
 -- A done call keeps the size and the value of a tree without a Top, whatever the inputs are. Assumes nothing.
-use Rattle.std.specs.Prelude.{false, List, ◌≡◌, ℕ}
+use Rattle.std.specs.Prelude.{false, List, ◌≡◌, ℕ, Ok}
 use Rattle.std.proofs.Common.{ap, sym, ◌∙◌}
 use Rattle.arena.specs.Live.{tree_of}
 use Rattle.theory.specs.MissingLaws.{HasRow}
@@ -17,8 +17,6 @@ use Rattle.tree.specs.Form.{Sized}
 use Rattle.tree.specs.Meaning.{Assignment, Fitting, value}
 use Rattle.tree.specs.Rows.{assigned, evaluated}
 use Rattle.tree.specs.Tree.{size, has_top}
-use Rattle.tree.specs.declared.Evaluated.{Evaluated}
-use Rattle.tree.specs.declared.Verdict.{Verdict}
 
 module _ {words : List ℕ} {count root root' m : ℕ} (call : DoneCall words count root root' m) where
   sized_before : Sized (tree_of count words root)
@@ -35,14 +33,14 @@ module _ {words : List ℕ} {count root root' m : ℕ} (call : DoneCall words co
     same_value ρ fitting = ap (value ρ) (tree_after call) ∙ reduced_value ρ fitting (tree_of count words root) sized_before topless
 
   -- DEMAND 3: so evaluation answers the same, wherever it has given a value
-  pub same_evaluation : (rows : List ℕ) (v : ℕ) → evaluated words count root rows ≡ Evaluated.Value v →
+  pub same_evaluation : (rows : List ℕ) (v : ℕ) → evaluated words count root rows ≡ Ok v →
       evaluated (words_after words count root) m root' rows ≡ evaluated words count root rows
   same_evaluation rows v e =
-      let before = (evaluated_exactly words count root rows (Evaluated.Value v)).0 e in
+      let before = (evaluated_exactly words count root rows (Ok v)).0 e in
       let t = tree_of count words root in
       let fitting = assigned_fitting rows before.assigns.no_bad_row in
       let after : Valued (words_after words count root) m root' rows v = record {
-        passing = (checked_exactly (words_after words count root) m root' Verdict.Passed).0 (passes_after call);
+        passing = (checked_exactly (words_after words count root) m root' (Ok tt)).0 (passes_after call);
         assigns = record {
           no_bad_row = before.assigns.no_bad_row;
           every_input = rw (tree_after call) (reduced_inputs (HasRow rows) t before.assigns.every_input);
@@ -50,4 +48,4 @@ module _ {words : List ℕ} {count root root' m : ℕ} (call : DoneCall words co
         free = ap has_top (tree_after call) ∙ reduced_free t sized_before before.free;
         value_is = same_value before.free (assigned rows) fitting ∙ before.value_is;
       } in
-      (evaluated_exactly (words_after words count root) m root' rows (Evaluated.Value v)).1 after ∙ sym e
+      (evaluated_exactly (words_after words count root) m root' rows (Ok v)).1 after ∙ sym e

@@ -1,5 +1,5 @@
 -- Every number that the check and evaluation answer, given once; 01's stacks at the limits. Assumes nothing.
-use Rattle.std.specs.Prelude.{List, [], ◌∷◌, ◌++◌, ◌≡◌, refl, ℕ, zero, suc}
+use Rattle.std.specs.Prelude.{List, [], ◌∷◌, ◌++◌, ◌≡◌, refl, ℕ, zero, suc, Err, Ok}
 use Rattle.format.specs.Kinds.{shape_of, row_of}
 use Rattle.format.specs.Nodes.{node_of}
 use Rattle.format.specs.declared.Bin.{Bin}
@@ -8,11 +8,11 @@ use Rattle.format.specs.declared.Un.{Un}
 use Rattle.rules.specs.Call.{words_of}
 use Rattle.rules.specs.Whole.{seven}
 use Rattle.tree.specs.Arena.{tree_at}
-use Rattle.tree.specs.Form.{well_formed, well_sized, judged, scanned, checked}
+use Rattle.tree.specs.Form.{well_formed, well_sized, judged, scanned, checked, Verdict}
 use Rattle.tree.specs.Rows.{good_row, bad_row_from, found_from, missing, evaluated}
 use Rattle.tree.specs.Tree.{nodes, path}
-use Rattle.tree.specs.declared.Evaluated.{Evaluated}
-use Rattle.tree.specs.declared.Verdict.{Verdict}
+use Rattle.tree.specs.declared.EvaluateError.{EvaluateError}
+use Rattle.tree.specs.declared.Refusal.{Refusal}
 
 -- STACKS: `over` makes a node of the one below it, n times, on an input
 abbrev pub stack : (over : ℕ → Node) → ℕ → List Node
@@ -31,7 +31,7 @@ verdict_on arena n = checked (words_of arena) (suc n) n
 -- 01, examples: Add(n, n) 11 and 12 high on an input, and Int2Comp 127 and 128 high
 pub stacks_at_the_limits :
     verdict_on (sums 11) 11 ∷ verdict_on (sums 12) 12 ∷ verdict_on (negations 127) 127 ∷ verdict_on (negations 128) 128 ∷ []
-    ≡ Verdict.Passed ∷ Verdict.TooManyNodes ∷ Verdict.Passed ∷ Verdict.PathTooLong ∷ []
+    ≡ Ok tt ∷ Err Refusal.TooManyNodes ∷ Ok tt ∷ Err Refusal.PathTooLong ∷ []
 unfolding checked scanned judged well_formed well_sized row_of shape_of node_of tree_at
 stacks_at_the_limits = refl
 
@@ -49,7 +49,7 @@ pub each_verdict :
     ∷ checked (0x1101_0000_0000_0000 ∷ 0 ∷ 0x0203_0000_0000_0000 ∷ 0 ∷ []) 2 0
     ∷ checked (0x0201_0000_0000_0000 ∷ 0 ∷ 0x0203_0000_0000_0000 ∷ 0 ∷ []) 2 0
     ∷ []
-    ≡ Verdict.Passed ∷ Verdict.CountAboveCapacity ∷ Verdict.RootNotBelowCount ∷ Verdict.IllFormed 0 ∷ Verdict.IllSized 1 ∷ []
+    ≡ Ok tt ∷ Err Refusal.CountAboveCapacity ∷ Err Refusal.RootNotBelowCount ∷ Err (Refusal.IllFormed 0) ∷ Err (Refusal.IllSized 1) ∷ []
 unfolding checked scanned judged well_formed well_sized row_of shape_of node_of tree_at
 each_verdict = refl
 
@@ -64,6 +64,6 @@ pub each_evaluation :
     ∷ evaluated seven 5 4 []
     ∷ evaluated (0 ∷ 0 ∷ []) 1 0 []
     ∷ []
-    ≡ Evaluated.Value 40 ∷ Evaluated.Refused Verdict.RootNotBelowCount ∷ Evaluated.BadRow 1 ∷ Evaluated.InputMissing 0 ∷ Evaluated.TopReachable ∷ []
+    ≡ Ok 40 ∷ Err (EvaluateError.Refused Refusal.RootNotBelowCount) ∷ Err (EvaluateError.BadRow 1) ∷ Err (EvaluateError.InputMissing 0) ∷ Err EvaluateError.TopReachable ∷ []
 unfolding evaluated missing found_from bad_row_from good_row checked scanned judged well_formed well_sized row_of shape_of node_of tree_at
 each_evaluation = refl

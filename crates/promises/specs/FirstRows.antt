@@ -1,8 +1,7 @@
 -- What evaluation's places are: a bad row that is named is the first, and so is an input without a row. Assumes nothing.
-use Rattle.std.specs.Prelude.{true, false, List, [], ◌∷◌, ◌++◌, ◌⊎◌, ◌≡◌, refl, eqb, length}
+use Rattle.std.specs.Prelude.{true, false, List, [], ◌∷◌, ◌++◌, ◌⊎◌, ◌≡◌, refl, eqb, length, None, Option, Some}
 use Rattle.std.proofs.Common.{append_assoc, ⊎_elim, sym, eq-or-lt_of_le}
 use Rattle.std.proofs.Math.Logic.{inl, inr}
-use Rattle.std.proofs.Math.Option.{Option, some, none}
 use Rattle.std.proofs.Math.Path.{subst}
 use Prim.Native.Nat.{ℕ, zero, suc, ◌+◌, ◌/◌, ◌%◌, ◌≤◌, ◌<◌}
 use native.Mathlib.Omega.{arith}
@@ -26,16 +25,16 @@ pub record NoneBad (rows : List ℕ) (n j : ℕ) : Type 0 where
   pub whole : eqb (length rows % row_words) 0 ≡ true
 
 abbrev Tells : List ℕ → (n j : ℕ) → Option ℕ → Type 0
-Tells rows n j none = NoneBad rows n j
-Tells rows n j (some i) = FirstBad rows n j i
+Tells rows n j None = NoneBad rows n j
+Tells rows n j (Some i) = FirstBad rows n j i
 
 module _ (rows : List ℕ) where
   one_more : (n j : ℕ) → good_row rows j ≡ true → (bad : Option ℕ) → Tells rows n (suc j) bad → Tells rows (suc n) j bad
-  one_more n j good none t = record {
+  one_more n j good None t = record {
     good = λ k a b. ⊎_elim (λ e. subst (λ (i : ℕ). good_row rows i ≡ true) e good) (λ h. t.good k h (omega arith)) (eq-or-lt_of_le a);
     whole = t.whole;
   }
-  one_more n j good (some i) t = record {
+  one_more n j good (Some i) t = record {
     from = omega (arith, t.from);
     before = λ k a b. ⊎_elim (λ e. subst (λ (i : ℕ). good_row rows i ≡ true) e good) (λ h. t.before k h b) (eq-or-lt_of_le a);
     bad = ⊎_elim (λ p. inl (omega (arith, p.0), p.1)) (λ p. inr (omega (arith, p.0), p.1)) t.bad;
@@ -53,7 +52,7 @@ module _ (rows : List ℕ) where
       (λ ill. record { from = omega arith; before = λ k a b. absurd (omega arith); bad = inl (omega arith, ill) })
 
   -- 01, answer 8: the first bad row's number
-  pub bad_row_is_first : (i : ℕ) → bad_row rows ≡ some i → FirstBad rows (length rows / row_words) 0 i
+  pub bad_row_is_first : (i : ℕ) → bad_row rows ≡ Some i → FirstBad rows (length rows / row_words) 0 i
   bad_row_is_first i e = subst (Tells rows (length rows / row_words) 0) e (bad_tells (length rows / row_words) 0)
 
 -- MISSING INPUTS
@@ -61,9 +60,9 @@ module _ (rows : List ℕ) where
 -- a node that is an input without a row
 abbrev pub WithoutRow : List ℕ → Node → Type 0
 WithoutRow rows Node.Top = ⊥
-WithoutRow rows (Node.Entry size space offset) = found rows (header_of (Node.Entry size space offset)) offset ≡ none
+WithoutRow rows (Node.Entry size space offset) = found rows (header_of (Node.Entry size space offset)) offset ≡ None
 WithoutRow rows (Node.Const size value) = ⊥
-WithoutRow rows (Node.Bind size id) = found rows (header_of (Node.Bind size id)) id ≡ none
+WithoutRow rows (Node.Bind size id) = found rows (header_of (Node.Bind size id)) id ≡ None
 WithoutRow rows (Node.Unary op size left) = ⊥
 WithoutRow rows (Node.Binary op size left right) = ⊥
 
@@ -97,8 +96,8 @@ pub record FirstWithoutRow (rows : List ℕ) (arena : List Node) (order : List �
   pub without_row : WithoutRow rows (at arena j)
 
 abbrev Names : List ℕ → List Node → List ℕ → Option ℕ → Type 0
-Names rows arena order none = NoneWithoutRow rows arena order
-Names rows arena order (some j) = FirstWithoutRow rows arena order j
+Names rows arena order None = NoneWithoutRow rows arena order
+Names rows arena order (Some j) = FirstWithoutRow rows arena order j
 
 module _ (rows : List ℕ) (arena : List Node) where
   none_in_both : (p q : List ℕ) → NoneWithoutRow rows arena p → NoneWithoutRow rows arena q → NoneWithoutRow rows arena (p ++ q)
@@ -107,15 +106,15 @@ module _ (rows : List ℕ) (arena : List Node) where
 
   -- the left child's inputs, then the right one's
   both_name : (p q : List ℕ) (a b : Option ℕ) → Names rows arena p a → Names rows arena q b → Names rows arena (p ++ q) (first_of a b)
-  both_name p q none none l r = none_in_both p q l r
-  both_name p q none (some j) l r = record {
+  both_name p q None None l r = none_in_both p q l r
+  both_name p q None (Some j) l r = record {
     before = p ++ r.before;
     after = r.after;
     order_is = rw r.order_is (sym (append_assoc p r.before (j ∷ r.after)));
     none_before = none_in_both p r.before l r.none_before;
     without_row = r.without_row;
   }
-  both_name p q (some j) b l r = record {
+  both_name p q (Some j) b l r = record {
     before = l.before;
     after = l.after ++ q;
     order_is = rw l.order_is (append_assoc l.before (j ∷ l.after) q);
@@ -125,10 +124,10 @@ module _ (rows : List ℕ) (arena : List Node) where
 
   -- a single input, by its row
   module _ (i : ℕ) (node : Node) (is : at arena i ≡ node) where
-    input_names : (row : Option ℕ) → (row ≡ none → WithoutRow rows node) → (WithoutRow rows node → row ≡ none) → Names rows arena (i ∷ []) (unless_found row i)
-    input_names none absent p =
+    input_names : (row : Option ℕ) → (row ≡ None → WithoutRow rows node) → (WithoutRow rows node → row ≡ None) → Names rows arena (i ∷ []) (unless_found row i)
+    input_names None absent p =
         record { before = []; after = []; order_is = refl; none_before = tt; without_row = rw is (absent refl) }
-    input_names (some v) absent present = (λ w. let e = present (rw is at w) in let z : ◌≡◌ {A = ℕ} 0 1 = cc in absurd (omega arith), tt)
+    input_names (Some v) absent present = (λ w. let e = present (rw is at w) in let z : ◌≡◌ {A = ℕ} 0 1 = cc in absurd (omega arith), tt)
 
   module _ (list : ℕ → List ℕ) (first : ℕ → Option ℕ) (below : (i : ℕ) → Names rows arena (list i) (first i)) where
     step_names : (i : ℕ) (node : Node) → at arena i ≡ node → Names rows arena (inputs_step list i node) (missing_step rows first i node)
@@ -145,6 +144,6 @@ module _ (rows : List ℕ) (arena : List Node) where
   from_names (suc steps) i = step_names (inputs_from arena steps) (missing_from rows arena steps) (from_names steps) i (at arena i) refl
 
   -- 01, answer 9: the index of the first input without a row, left before right
-  pub missing_is_first : (i j : ℕ) → missing rows arena i ≡ some j → FirstWithoutRow rows arena (inputs arena i) j
+  pub missing_is_first : (i j : ℕ) → missing rows arena i ≡ Some j → FirstWithoutRow rows arena (inputs arena i) j
   unfolding missing
   missing_is_first i j e = subst (Names rows arena (inputs arena i)) e (from_names (suc i) i)

@@ -1,5 +1,5 @@
 -- The run has ended: more steps give the same answer and the same words. Assumes nothing.
-use Rattle.std.specs.Prelude.{List, ◌≡◌, ℕ, ◌≤◌}
+use Rattle.std.specs.Prelude.{List, ◌≡◌, ℕ, ◌≤◌, Ok}
 use Rattle.std.proofs.Common.{arith}
 use Rattle.arena.specs.Live.{tree_of}
 use Rattle.arena.specs.LiveLaws.{live_ordered, in_arena}
@@ -10,9 +10,8 @@ use Rattle.rules.specs.Run.{Out, run_for, weight}
 use Rattle.theory.proofs.Simulation.{runs_agree}
 use Rattle.tree.specs.Arena.{nodes_of}
 use Rattle.tree.specs.Form.{checked}
-use Rattle.tree.specs.declared.Verdict.{Verdict}
 
-module _ (words : List ℕ) (count root : ℕ) (words64 : Words64 words) (passed : checked words count root ≡ Verdict.Passed)
+module _ (words : List ℕ) (count root : ℕ) (words64 : Words64 words) (passed : checked words count root ≡ Ok tt)
     (steps : ℕ) (enough : weight (tree_of count words root) ≤ steps) where
   abbrev longer : Out
   longer = run_for steps (nodes_of count words) root

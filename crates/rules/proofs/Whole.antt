@@ -1,20 +1,20 @@
 -- 01's example P1 whole, through the call: its words, what they become, and what they become without room. Assumes nothing.
-use Rattle.std.specs.Prelude.{List, [], ◌∷◌, ◌++◌, ◌≡◌, refl}
+use Rattle.std.specs.Prelude.{List, [], ◌∷◌, ◌++◌, ◌≡◌, refl, Err}
 use Rattle.std.proofs.Math.Decide.{ℕ_discrete}
 use Rattle.format.specs.Kinds.{shape_of, row_of}
 use Rattle.format.specs.Nodes.{node_of}
 use Rattle.format.specs.declared.Bin.{Bin}
 use Rattle.format.specs.declared.Node.{Node}
 use Rattle.rules.specs.Bench.{lent_for}
-use Rattle.rules.specs.Call.{words_of, simplified_answer, words_after, simplified_number, simplified_place, simplified_root, simplified_count}
-use Rattle.rules.specs.declared.Simplified.{Simplified}
+use Rattle.rules.specs.Call.{words_of, simplified_answer, words_after, simplified_number, simplified_place, simplified_root, simplified_count, done}
+use Rattle.rules.specs.declared.SimplifyError.{SimplifyError}
 use Rattle.tree.specs.Arena.{tree_at}
 use Rattle.tree.specs.Form.{well_formed, well_sized, judged, scanned, checked}
 use Rattle.tree.specs.Tree.{un_discrete, bin_discrete, same}
-use Rattle.tree.specs.declared.Verdict.{Verdict}
+use Rattle.tree.specs.declared.Refusal.{Refusal}
 use Rattle.rules.specs.Whole.{p1, seven, six}
 
-pub p1_answer : simplified_answer seven 5 4 ≡ Simplified.Done 6 7
+pub p1_answer : simplified_answer seven 5 4 ≡ done 6 7
 unfolding simplified_answer checked scanned judged well_formed well_sized row_of shape_of node_of tree_at same ℕ_discrete un_discrete bin_discrete
 p1_answer = refl
 
@@ -32,7 +32,7 @@ pub p1_printed :
     ≡ 0 ∷ 0 ∷ 6 ∷ 7 ∷ []
 p1_printed = rw p1_answer
 
-pub p1_no_room : simplified_answer six 5 4 ≡ Simplified.NoRoom
+pub p1_no_room : simplified_answer six 5 4 ≡ Err SimplifyError.NoRoom
 unfolding simplified_answer checked scanned judged well_formed well_sized row_of shape_of node_of tree_at same ℕ_discrete un_discrete bin_discrete
 p1_no_room = refl
 
@@ -41,7 +41,7 @@ unfolding words_after simplified_answer checked scanned judged well_formed well_
 p1_cleared = refl
 
 -- the same slice with a root past its nodes is refused, and no word changes
-pub p1_refused : simplified_answer six 5 5 ≡ Simplified.Refused Verdict.RootNotBelowCount
+pub p1_refused : simplified_answer six 5 5 ≡ Err (SimplifyError.Refused Refusal.RootNotBelowCount)
 unfolding simplified_answer checked
 p1_refused = refl
 

@@ -1,13 +1,11 @@
 -- The rules of 01 in value.rs's order: what each kind decides once its children are simplified and none of them is Top.
 -- Assumes nothing: these are definitions.
-use Rattle.std.specs.Prelude.{Bool, true, false, cond, ℕ, ◌-◌, ◌*◌, ◌^◌, eqb, leb}
-use Rattle.std.proofs.Math.Option.{Option, some, none}
+use Rattle.std.specs.Prelude.{Bool, true, false, cond, ℕ, ◌-◌, ◌*◌, ◌^◌, eqb, leb, None, Option, Some}
 use Rattle.format.specs.declared.Bin.{Bin}
 use Rattle.format.specs.declared.Un.{Un}
 use Rattle.manual.specs.Operations.{int_add, int_sub, int_2comp, negative64, amount64}
 use Rattle.rules.specs.declared.Act.{Act}
 use Rattle.rules.specs.declared.Beside.{Beside}
-use Rattle.rules.specs.declared.Constants.{Constants}
 use Rattle.rules.specs.declared.Equals.{Equals}
 use Rattle.rules.specs.declared.Near.{Near}
 use Rattle.rules.specs.declared.View.{View}
@@ -17,16 +15,16 @@ use Rattle.tree.specs.Tree.{Tree, top, entry, const, bind, unary, binary, size, 
 -- WHAT A RULE SEES
 
 abbrev pub constant_of : Tree → Option ℕ
-constant_of top = none
-constant_of (entry s space offset) = none
-constant_of (const s v) = some v
-constant_of (bind s id) = none
-constant_of (unary op s a) = none
-constant_of (binary op s a b) = none
+constant_of top = None
+constant_of (entry s space offset) = None
+constant_of (const s v) = Some v
+constant_of (bind s id) = None
+constant_of (unary op s a) = None
+constant_of (binary op s a b) = None
 
 abbrev pub beside_view : (ℕ → View) → Option ℕ → View
-beside_view f none = View.Other
-beside_view f (some a) = f a
+beside_view f None = View.Other
+beside_view f (Some a) = f a
 
 abbrev pub bin_view : Bin → Option ℕ → View
 bin_view Bin.Add right = beside_view View.Plus right
@@ -52,12 +50,6 @@ view (const s v) = View.Constant v
 view (bind s id) = View.Other
 view (unary op s a) = un_view op s
 view (binary op s a b) = bin_view op (constant_of b)
-
-abbrev pub constants : Option ℕ → Option ℕ → Constants
-constants none none = Constants.Neither
-constants none (some b) = Constants.Right b
-constants (some a) none = Constants.Left a
-constants (some a) (some b) = Constants.Both a b
 
 -- THE RULES OF TWO CHILDREN. Every kind folds two constants. Beside that a kind says whether it swaps a constant on the left
 -- with what is not one, what it does with e beside the constant n (e on the left, n on the right, once swapped), and what it
@@ -177,15 +169,15 @@ on_equal Equals.Stay = Act.Keep
 on_equal Equals.Zero = Act.Make 0
 on_equal Equals.Left = Act.Give Near.Left
 
--- the views of the children, whether they are equal, the left one's size, and which are constants
-abbrev pub decided : Bin → (s : ℕ) → (alike : Bool) → View → View → (c : ℕ) → Constants → Act
-decided op s alike a b c Constants.Neither = cond alike (on_equal (rule_of op).equal) Act.Keep
-decided op s alike a b c (Constants.Left m) = cond (rule_of op).swaps (on_right ((rule_of op).beside s b m)) Act.Keep
-decided op s alike a b c (Constants.Right n) = on_left ((rule_of op).beside s a n)
-decided op s alike a b c (Constants.Both m n) = Act.Make (bin_value op s c m n)
+-- the views of the children, whether they are equal, the left one's size, and the constant that each is, if it is one
+abbrev pub decided : Bin → (s : ℕ) → (alike : Bool) → View → View → (c : ℕ) → (left right : Option ℕ) → Act
+decided op s alike a b c None None = cond alike (on_equal (rule_of op).equal) Act.Keep
+decided op s alike a b c (Some m) None = cond (rule_of op).swaps (on_right ((rule_of op).beside s b m)) Act.Keep
+decided op s alike a b c None (Some n) = on_left ((rule_of op).beside s a n)
+decided op s alike a b c (Some m) (Some n) = Act.Make (bin_value op s c m n)
 
 abbrev pub bin_act : Bin → (s : ℕ) → Tree → Tree → Act
-bin_act op s a b = decided op s (same a b) (view a) (view b) (size a) (constants (constant_of a) (constant_of b))
+bin_act op s a b = decided op s (same a b) (view a) (view b) (size a) (constant_of a) (constant_of b)
 
 -- THE RULES OF ONE CHILD
 

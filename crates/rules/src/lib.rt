@@ -1,8 +1,11 @@
 // What the rules see and decide: the types that the definitions in specs/ and the code share.
 #![tactic(auto)]
 
+ghost use Rattle.std.specs.Prelude.{◌≡◌};
+ghost use Rattle.rules.specs.declared.SimplifyError.TheVariants.{Refused};
+
 use format::{Bin, Un};
-use tree::Verdict;
+use tree::Refusal;
 
 // What a rule sees of a simplified child: a constant, e + #a, e - #a, -e, e sign-extended to some bytes, or anything else.
 #[derive(Clone, Copy)]
@@ -13,15 +16,6 @@ pub enum View {
     Negation,
     Extension(u64),
     Other,
-}
-
-// Which of two children are constants.
-#[derive(Clone, Copy)]
-pub enum Constants {
-    Neither,
-    Left(u64),
-    Right(u64),
-    Both(u64, u64),
 }
 
 // A node near the one that is simplified: a child, or a child's left child.
@@ -64,10 +58,24 @@ pub enum Act {
     RedoUnary(Un, Near),
 }
 
-// Of simplify: the new root and count, or the check's refusal, or 7.
-#[derive(Clone, Copy)]
-pub enum Simplified {
-    Done(usize, usize),
-    Refused(Verdict),
+// Where simplify has ended: the new root, and how many nodes there are.
+#[derive(Clone, Copy, Debug, PartialEq, Eq)]
+pub struct Simplified {
+    pub root: usize,
+    pub count: usize,
+}
+
+// Why simplify has not: the check's refusal, or 7.
+#[derive(Clone, Copy, Debug, PartialEq, Eq)]
+pub enum SimplifyError {
+    Refused(Refusal),
     NoRoom,
+}
+
+impl From<Refusal> for SimplifyError {
+    ghost from_gives = { λ refusal error. error ≡ Refused refusal };
+
+    fn from(refusal: Refusal) -> SimplifyError {
+        SimplifyError::Refused(refusal)
+    }
 }

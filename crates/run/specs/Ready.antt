@@ -1,5 +1,5 @@
 -- What is known of a node once its children are simplified, and what its visit then is. Assumes nothing.
-use Rattle.std.specs.Prelude.{Bool, true, false, ◌||◌, List, ◌≡◌, refl, ℕ, ◌<◌}
+use Rattle.std.specs.Prelude.{Bool, true, false, ◌||◌, List, ◌≡◌, refl, ℕ, ◌<◌, None, Option, Some}
 use Rattle.std.proofs.Common.{ap, sym, ◌∙◌, arith}
 use Rattle.arena.specs.Ended.{Ended}
 use Rattle.arena.specs.Live.{Live, New, tree_of, node_is_top, node_is_leaf}
@@ -7,14 +7,12 @@ use Rattle.arena.specs.LiveLaws.{live_ordered, in_arena, top_at, tree_of_node}
 use Rattle.arena.specs.declared.Step.{Step}
 use Rattle.format.specs.Truth.{or_neither, not_both}
 use Rattle.format.specs.declared.Bin.{Bin}
-use Rattle.format.specs.declared.ChildSize.{ChildSize}
 use Rattle.format.specs.declared.Node.{Node}
 use Rattle.format.specs.declared.Un.{Un}
 use Rattle.rules.specs.Run.{Out, out, unary_run, binary_run, weight, simplified}
 use Rattle.settle.specs.Chains.{after_run, ended_here, unary_child, binary_children}
 use Rattle.settle.specs.Visits.{OneAt, TwoAt}
-use Rattle.theory.specs.Normal.{Normal}
-use Rattle.theory.specs.Normal.{normal_top}
+use Rattle.theory.specs.Normal.{Normal, normal_top}
 use Rattle.theory.proofs.Reduced.{reduced_normal, reduced_top}
 use Rattle.theory.specs.Simulation.{run_on_normal}
 use Rattle.theory.proofs.Simulation.{simplified_stands}
@@ -33,7 +31,7 @@ pub record OneReady (words : List ℕ) (count i : ℕ) (op : Un) (s j a : ℕ) :
   pub node_is : node_at words i ≡ Node.Unary op s j
   pub child_below : a < count
   pub child_normal : Normal (tree_of count words a)
-  pub sized_over : is_top (tree_of count words a) ≡ false → sized (un_sizing op) s 0 (size_seen (tree_of count words a)) ChildSize.Absent ≡ true
+  pub sized_over : is_top (tree_of count words a) ≡ false → sized (un_sizing op) s 0 (size_seen (tree_of count words a)) None ≡ true
 
 pub record TwoReady (words : List ℕ) (count i : ℕ) (op : Bin) (s j k a b : ℕ) : Type 0 where
   pub below : i < count

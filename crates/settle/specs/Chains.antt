@@ -17,8 +17,7 @@ use Rattle.theory.specs.Normal.{Normal}
 use Rattle.theory.specs.Simulation.{Stands}
 use Rattle.theory.proofs.Simulation.{simplified_stands}
 use Rattle.theory.specs.TreeRun.{acted_tree}
-use Rattle.theory.specs.Visits.{redoes, carried, OverNormal}
-use Rattle.theory.specs.Visits.{redone, not_redone, one_falls, left_falls}
+use Rattle.theory.specs.Visits.{redoes, carried, OverNormal, redone, not_redone, one_falls, left_falls}
 use Rattle.theory.proofs.Visits.{one_below, one_eq, one_grows, one_lighter, two_below, two_eq, left_grows, right_grows, right_falls, two_lighter, carried_two, carried_two_stands, carried_two_lighter, carried_two_over_normal, carried_one, carried_one_stands, carried_one_lighter, carried_one_over_normal}
 use Rattle.tree.specs.Arena.{node_at, nodes_of, at}
 use Rattle.tree.specs.ArenaLaws.{length-nodes_of, at-nodes_of, length_appended}

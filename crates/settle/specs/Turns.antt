@@ -1,13 +1,12 @@
 -- Which rules simplify again, and that the others never do. Assumes nothing.
-use Rattle.std.specs.Prelude.{Bool, false, ◌≡◌, refl, ℕ, ◌-◌, ◌*◌, ◌^◌, eqb}
+use Rattle.std.specs.Prelude.{Bool, false, ◌≡◌, refl, ℕ, ◌-◌, ◌*◌, ◌^◌, eqb, Option, Some, None}
 use Rattle.std.proofs.Common.{arith}
 use Rattle.format.specs.Truth.{either}
 use Rattle.format.specs.declared.Bin.{Bin}
 use Rattle.format.specs.declared.Un.{Un}
-use Rattle.rules.specs.Rules.{constant_of, view, constants, rule_of, on_left, on_right, on_equal, decided, bin_act, neg_act, un_act}
+use Rattle.rules.specs.Rules.{constant_of, view, rule_of, on_left, on_right, on_equal, decided, bin_act, neg_act, un_act}
 use Rattle.rules.specs.declared.Act.{Act}
 use Rattle.rules.specs.declared.Beside.{Beside}
-use Rattle.rules.specs.declared.Constants.{Constants}
 use Rattle.rules.specs.declared.Equals.{Equals}
 use Rattle.rules.specs.declared.View.{View}
 use Rattle.settle.specs.declared.turn.Turn.{Turn}
@@ -101,15 +100,15 @@ equal_plain Equals.Stay = refl
 equal_plain Equals.Zero = refl
 equal_plain Equals.Left = refl
 
-decided_plain : (op : Bin) (s : ℕ) (alike : Bool) (x y : View) (c : ℕ) (z : Constants) → turn_of op ≡ Turn.Plain → redoes (decided op s alike x y c z) ≡ false
-decided_plain op s alike x y c Constants.Neither e = either (λ (act : Act). redoes act ≡ false) alike (equal_plain (rule_of op).equal) refl
-decided_plain op s alike x y c (Constants.Left m) e =
+decided_plain : (op : Bin) (s : ℕ) (alike : Bool) (x y : View) (c : ℕ) (u v : Option ℕ) → turn_of op ≡ Turn.Plain → redoes (decided op s alike x y c u v) ≡ false
+decided_plain op s alike x y c None None e = either (λ (act : Act). redoes act ≡ false) alike (equal_plain (rule_of op).equal) refl
+decided_plain op s alike x y c (Some m) None e =
     either (λ (act : Act). redoes act ≡ false) (rule_of op).swaps (right_plain ((rule_of op).beside s y m) (plain_beside op s y m e)) refl
-decided_plain op s alike x y c (Constants.Right n) e = left_plain ((rule_of op).beside s x n) (plain_beside op s x n e)
-decided_plain op s alike x y c (Constants.Both m n) e = refl
+decided_plain op s alike x y c None (Some n) e = left_plain ((rule_of op).beside s x n) (plain_beside op s x n e)
+decided_plain op s alike x y c (Some m) (Some n) e = refl
 
 pub bin_plain : (op : Bin) (s : ℕ) (a b : Tree) → turn_of op ≡ Turn.Plain → redoes (bin_act op s a b) ≡ false
-bin_plain op s a b e = decided_plain op s (same a b) (view a) (view b) (size a) (constants (constant_of a) (constant_of b)) e
+bin_plain op s a b e = decided_plain op s (same a b) (view a) (view b) (size a) (constant_of a) (constant_of b) e
 
 neg_plain : (s : ℕ) (v : View) → redoes (neg_act s v) ≡ false
 neg_plain s (View.Constant n) = refl

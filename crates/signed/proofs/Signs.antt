@@ -16,8 +16,7 @@ use mir.Syntax.{w64}
 use mir.Val.{Fits, SFits, of_z, sel, to_z}
 use mir.ValLaws.{sfits_le}
 use Rattle.manual.specs.Cuts.{negative_cut}
-use Rattle.manual.specs.Halves.{below_or, two_halves, top_bit_clear, top_bit_set, signed_lower, signed_upper}
-use Rattle.manual.specs.Halves.{int_sext_lower, int_sext_upper}
+use Rattle.manual.specs.Halves.{below_or, two_halves, top_bit_clear, top_bit_set, signed_lower, signed_upper, int_sext_lower, int_sext_upper}
 use Rattle.manual.proofs.Halves.{int_sright_lower, int_sright_upper}
 use Rattle.manual.specs.Operations.{int_2comp, int_sright, int_sext, signed, negative64, amount64}
 use Rattle.signed.specs.Bits.{bits64}

@@ -1,5 +1,5 @@
 -- The words that the call leaves, from what the run leaves. Assumes nothing.
-use Rattle.std.specs.Prelude.{true, List, [], ◌∷◌, ◌++◌, ◌≡◌, refl, ℕ, zero, suc, ◌+◌, ◌-◌, ◌*◌, ◌≤◌, ◌<◌, length, get_or, take, drop, replicate}
+use Rattle.std.specs.Prelude.{true, List, [], ◌∷◌, ◌++◌, ◌≡◌, refl, ℕ, zero, suc, ◌+◌, ◌-◌, ◌*◌, ◌≤◌, ◌<◌, length, get_or, take, drop, replicate, Err, Ok, Result}
 use Rattle.std.proofs.Common.{append_assoc, ap, ap₂, sym, ◌∙◌, arith, le-leb, length-take, length-drop, take-append-drop, take-take, take-suc, get_or-take, get_or-drop, ext_get_or}
 use Rattle.std.proofs.lemmas.Bool.{lt-leb}
 use Rattle.std.proofs.Math.Seq.{drop-nil}
@@ -10,9 +10,9 @@ use Rattle.arena.specs.declared.Step.{Step}
 use Rattle.format.specs.Limits.{node_words, capacity}
 use Rattle.format.specs.Nodes.{header_of, payload_of}
 use Rattle.format.specs.declared.Node.{Node}
-use Rattle.rules.specs.Call.{words_of, fits, ended, appended_words, cleared_words}
+use Rattle.rules.specs.Call.{words_of, fits, ended, appended_words, cleared_words, SimplifiedAnswer, done}
 use Rattle.rules.specs.Run.{Out}
-use Rattle.rules.specs.declared.Simplified.{Simplified}
+use Rattle.rules.specs.declared.SimplifyError.{SimplifyError}
 use Rattle.simplifier.specs.Cleared.{cleared}
 use Rattle.tree.specs.Arena.{node_at, nodes_of}
 use Rattle.tree.specs.ArenaLaws.{length-nodes_of}
@@ -60,11 +60,11 @@ module _ (words after : List ℕ) (count : ℕ) (o : Out) (root m : ℕ) (more :
   m_is : length o.arena ≡ m
   m_is = sym (ap length h.ran.nodes_are) ∙ length-nodes_of m after
 
-  pub done_answer : Simplified.Done root m ≡ ended (fits words o) o
+  pub done_answer : done root m ≡ ended (fits words o) o
   done_answer =
       let room = h.ran.live.room in
       let ok : fits words o ≡ true = le-leb (length o.arena) (capacity (length words)) (rw (m_is, ← h.same_length) room) in
-      rw ok (ap₂ Simplified.Done h.ran.root_is (sym m_is))
+      rw ok (ap₂ done h.ran.root_is (sym m_is))
 
   pub done_words : after ≡ appended_words words count o
   done_words =
@@ -81,7 +81,7 @@ module _ (words after : List ℕ) (count : ℕ) (o : Out) (root m : ℕ) (more :
 -- NO ROOM
 
 module _ (words mid : List ℕ) (count : ℕ) (o : Out) (h : Ended words mid count o Step.NoRoom) where
-  pub none_answer : Simplified.NoRoom ≡ ended (fits words o) o
+  pub none_answer : Err SimplifyError.NoRoom ≡ ended (fits words o) o
   none_answer = rw (lt-leb (length o.arena) (capacity (length words)) h.ran)
 
   pub none_words : cleared mid (node_words * count) (node_words * capacity (length words)) ≡ cleared_words words count

@@ -1,19 +1,19 @@
 -- An answer as the struct that is handed out: 01's number, place and values of it. Assumes nothing: these are definitions.
-use Rattle.std.specs.Prelude.{ℕ}
-use Rattle.rules.specs.Call.{simplified_number, simplified_place, simplified_root, simplified_count}
-use Rattle.rules.specs.declared.Simplified.{Simplified}
+use Rattle.std.specs.Prelude.{ℕ, Err, Ok, Result}
+use Rattle.rules.specs.Call.{simplified_number, simplified_place, simplified_root, simplified_count, SimplifiedAnswer, done}
+use Rattle.rules.specs.declared.SimplifyError.{SimplifyError}
 use Rattle.simplifier.specs.declared.exports.CheckReply.{CheckReply}
 use Rattle.simplifier.specs.declared.exports.EvaluateReply.{EvaluateReply}
 use Rattle.simplifier.specs.declared.exports.SimplifyReply.{SimplifyReply}
-use Rattle.tree.specs.Form.{verdict_number, verdict_place}
-use Rattle.tree.specs.Rows.{evaluated_number, evaluated_place, evaluated_value}
-use Rattle.tree.specs.declared.Evaluated.{Evaluated}
-use Rattle.tree.specs.declared.Verdict.{Verdict}
+use Rattle.tree.specs.Form.{verdict_number, verdict_place, Verdict}
+use Rattle.tree.specs.Rows.{evaluated_number, evaluated_place, evaluated_value, Evaluated}
+use Rattle.tree.specs.declared.EvaluateError.{EvaluateError}
+use Rattle.tree.specs.declared.Refusal.{Refusal}
 
 abbrev pub check_reply : Verdict → CheckReply
 check_reply v = record { number = verdict_number v; place = verdict_place v }
 
-abbrev pub simplify_reply : Simplified → (count : ℕ) → SimplifyReply
+abbrev pub simplify_reply : SimplifiedAnswer → (count : ℕ) → SimplifyReply
 simplify_reply a count =
     record { number = simplified_number a; place = simplified_place a; root = simplified_root a; count = simplified_count a count }
 

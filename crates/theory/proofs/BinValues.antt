@@ -1,11 +1,10 @@
 -- What the rule of a node of two children decides keeps the node's size and value, and is well sized. Assumes nothing.
 -- Throughout, `ok` says that a tree is well sized, and `free` that no Top is reached from it.
-use Rattle.std.specs.Prelude.{Bool, true, false, ◌≡◌, refl, ℕ, ◌*◌, ◌^◌}
-use Rattle.std.proofs.Math.Option.{Option, some, none}
+use Rattle.std.specs.Prelude.{Bool, true, false, ◌≡◌, refl, ℕ, ◌*◌, ◌^◌, None, Option, Some}
 use Rattle.std.proofs.Common.{sym, ◌∙◌, subst, mod-eq_of_lt}
 use Rattle.std.proofs.Math.Nat.{zero-mod}
 use Rattle.format.specs.declared.Bin.{Bin}
-use Rattle.rules.specs.Rules.{constant_of, view, constants, on_left, on_right, on_equal, rule_of, decided, bin_act}
+use Rattle.rules.specs.Rules.{constant_of, view, on_left, on_right, on_equal, rule_of, decided, bin_act}
 use Rattle.rules.specs.declared.Act.{Act}
 use Rattle.rules.specs.declared.Beside.{Beside}
 use Rattle.rules.specs.declared.Equals.{Equals}
@@ -110,15 +109,15 @@ module _ (ρ : Assignment) (fitting : Fitting ρ) (op : Bin) (s : ℕ) (a b : Tr
       (subst (λ (u : Tree). Operands (bin_sizing op) s (size a) (size u) (value ρ a) (value ρ u)) (sym e) both)))
 
   decided_keeps : (alike : Bool) → same a b ≡ alike → (m n : Option ℕ) → Shows m (size a) (value ρ a) → Shows n (size b) (value ρ b) →
-      Replaces ρ (binary op s a b) (bin_made op s a b (decided op s alike (view a) (view b) (size a) (constants m n)))
-  decided_keeps alike e none none p q =
+      Replaces ρ (binary op s a b) (bin_made op s a b (decided op s alike (view a) (view b) (size a) m n))
+  decided_keeps alike e None None p q =
       by_test (λ (act : Act). Replaces ρ (binary op s a b) (bin_made op s a b act)) alike
       (λ t. equal_children (same_eq a b (e ∙ t))) (λ t. kept)
-  decided_keeps alike e none (some n) p q = constant_on_right n q.0
-  decided_keeps alike e (some m) none p q =
+  decided_keeps alike e None (Some n) p q = constant_on_right n q.0
+  decided_keeps alike e (Some m) None p q =
       by_test (λ (act : Act). Replaces ρ (binary op s a b) (bin_made op s a b act)) (rule_of op).swaps
       (constant_on_left m p.0) (λ t. kept)
-  decided_keeps alike e (some m) (some n) p q = two_constants m n p.0 q.0
+  decided_keeps alike e (Some m) (Some n) p q = two_constants m n p.0 q.0
 
   pub bin_act_keeps : Replaces ρ (binary op s a b) (bin_made op s a b (bin_act op s a b))
   bin_act_keeps =

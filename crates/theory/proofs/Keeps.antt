@@ -1,12 +1,11 @@
 -- A value fits its size, and what it is for one tree to stand in another's place. Assumes nothing.
 -- Throughout, `ok` says that a tree is well sized, `free` that no Top is reached from it, and `is` that s is a size.
-use Rattle.std.specs.Prelude.{false, true, ◌≡◌, refl, ℕ, ◌*◌, ◌%◌, ◌^◌, ◌<◌}
+use Rattle.std.specs.Prelude.{false, true, ◌≡◌, refl, ℕ, ◌*◌, ◌%◌, ◌^◌, ◌<◌, None, Some}
 use Rattle.std.proofs.Common.{true≢false, subst, arith}
 use Rattle.format.specs.Header.{header}
 use Rattle.format.proofs.Header.{fields_of_header}
 use Rattle.format.specs.Kinds.{row_of}
 use Rattle.format.specs.declared.Bin.{Bin}
-use Rattle.format.specs.declared.ChildSize.{ChildSize}
 use Rattle.format.specs.declared.Sizing.{Sizing}
 use Rattle.format.specs.declared.Un.{Un}
 use Rattle.manual.specs.Fits.{int_2comp_fits, int_sext_fits}
@@ -22,14 +21,14 @@ use Rattle.theory.specs.Keeps.{Keeps}
 
 -- A VALUE FITS ITS SIZE
 
-un_fits : (op : Un) (s c x : ℕ) → Allowed (un_sizing op) s 0 (ChildSize.Bytes c) ChildSize.Absent → x < 2 ^ (8 * c) →
+un_fits : (op : Un) (s c x : ℕ) → Allowed (un_sizing op) s 0 (Some c) None → x < 2 ^ (8 * c) →
     un_value op s c x < 2 ^ (8 * s)
 unfolding row_of
 un_fits Un.SignExtend s c x sizes fits = int_sext_fits (8 * c) (8 * s) x (omega arith) fits
 un_fits Un.Int2Comp s c x sizes fits = int_2comp_fits (8 * s) x
 
 bin_sizes : (op : Bin) (s : ℕ) (a b : Tree) → Sized (binary op s a b) → has_top (binary op s a b) ≡ false →
-    Allowed (bin_sizing op) s 0 (ChildSize.Bytes (size a)) (ChildSize.Bytes (size b))
+    Allowed (bin_sizing op) s 0 (Some (size a)) (Some (size b))
 bin_sizes op s a b ok free =
     children_allowed (bin_sizing op) s a b (free_is_top a (free_left a b free)) (free_is_top b (free_right a b free)) ok.0
 
@@ -53,7 +52,7 @@ module _ (ρ : Assignment) (fitting : Fitting ρ) where
   pub value_fits : (t : Tree) → Sized t → has_top t ≡ false → value ρ t < 2 ^ (8 * size t)
   value_fits top ok free = absurd (true≢false free)
   value_fits (entry s space offset) ok free = input_fits 1 s space offset (omega arith) ok.0 ok.1
-  value_fits (const s v) ok free = allowed s v ChildSize.Absent ChildSize.Absent Sizing.Constant ok
+  value_fits (const s v) ok free = allowed s v None None Sizing.Constant ok
   value_fits (bind s id) ok free = input_fits 3 s 0 id (omega arith) ok (omega arith)
   value_fits (unary op s a) ok free =
       un_fits op s (size a) (value ρ a) (child_allowed (un_sizing op) s a (free_is_top a free) ok.0) (value_fits a ok.1 free)

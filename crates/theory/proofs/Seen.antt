@@ -1,9 +1,7 @@
 -- What a rule's view of a tree tells of the tree's size and value, in numbers. Assumes nothing.
-use Rattle.std.specs.Prelude.{false, ◌≡◌, refl, ℕ}
-use Rattle.std.proofs.Math.Option.{Option, some, none}
+use Rattle.std.specs.Prelude.{false, ◌≡◌, refl, ℕ, None, Option, Some}
 use Rattle.format.specs.Kinds.{row_of}
 use Rattle.format.specs.declared.Bin.{Bin}
-use Rattle.format.specs.declared.ChildSize.{ChildSize}
 use Rattle.format.specs.declared.Sizing.{Sizing}
 use Rattle.format.specs.declared.Un.{Un}
 use Rattle.rules.specs.Rules.{constant_of, bin_view, un_view, view}
@@ -18,24 +16,24 @@ use Rattle.theory.specs.Seen.{Shows, Tells}
 pub constant_shows : (ρ : Assignment) (t : Tree) → Sized t → Shows (constant_of t) (size t) (value ρ t)
 constant_shows ρ top ok = tt
 constant_shows ρ (entry s space offset) ok = tt
-constant_shows ρ (const s v) ok = (refl, allowed s v ChildSize.Absent ChildSize.Absent Sizing.Constant ok)
+constant_shows ρ (const s v) ok = (refl, allowed s v None None Sizing.Constant ok)
 constant_shows ρ (bind s id) ok = tt
 constant_shows ρ (unary op s a) ok = tt
 constant_shows ρ (binary op s a b) ok = tt
 
-un_tells : (op : Un) (s c x : ℕ) → Allowed (un_sizing op) s 0 (ChildSize.Bytes c) ChildSize.Absent →
+un_tells : (op : Un) (s c x : ℕ) → Allowed (un_sizing op) s 0 (Some c) None →
     Tells (un_view op s) s (un_value op s c x) c x
 unfolding row_of
 un_tells Un.SignExtend s c x sizes = (refl, sizes, refl)
 un_tells Un.Int2Comp s c x sizes = (sizes.0, refl)
 
-bin_tells : (op : Bin) (s c d x y : ℕ) → Allowed (bin_sizing op) s 0 (ChildSize.Bytes c) (ChildSize.Bytes d) →
+bin_tells : (op : Bin) (s c d x y : ℕ) → Allowed (bin_sizing op) s 0 (Some c) (Some d) →
     (right : Option ℕ) → Shows right d y → Tells (bin_view op right) s (bin_value op s c x y) c x
 unfolding row_of
-bin_tells Bin.Add s c d x y sizes none n = tt
-bin_tells Bin.Add s c d x y sizes (some a) n = (sizes.0, rw sizes.1 at n.1, rw n.0)
-bin_tells Bin.Sub s c d x y sizes none n = tt
-bin_tells Bin.Sub s c d x y sizes (some a) n = (sizes.0, rw sizes.1 at n.1, rw n.0)
+bin_tells Bin.Add s c d x y sizes None n = tt
+bin_tells Bin.Add s c d x y sizes (Some a) n = (sizes.0, rw sizes.1 at n.1, rw n.0)
+bin_tells Bin.Sub s c d x y sizes None n = tt
+bin_tells Bin.Sub s c d x y sizes (Some a) n = (sizes.0, rw sizes.1 at n.1, rw n.0)
 bin_tells Bin.Mul s c d x y sizes right n = tt
 bin_tells Bin.Xor s c d x y sizes right n = tt
 bin_tells Bin.Or s c d x y sizes right n = tt

@@ -1,12 +1,11 @@
 -- The run keeps an arena storable: all its trees are well sized, and its payloads are words of 64 bits. Assumes nothing.
-use Rattle.std.specs.Prelude.{Bool, true, false, ◌&&◌, ◌||◌, List, [], ◌∷◌, ◌++◌, ◌≡◌, refl, ℕ, zero, suc, ◌*◌, ◌%◌, ◌^◌, ◌≤◌, ◌<◌, eqb, length}
+use Rattle.std.specs.Prelude.{Bool, true, false, ◌&&◌, ◌||◌, List, [], ◌∷◌, ◌++◌, ◌≡◌, refl, ℕ, zero, suc, ◌*◌, ◌%◌, ◌^◌, ◌≤◌, ◌<◌, eqb, length, None}
 use Rattle.std.proofs.Common.{ap, sym, ◌∙◌, subst, arith, pow_mono}
 use Rattle.std.proofs.Math.Decide.{dec_lt}
 use Rattle.std.proofs.Math.ListN.{get_or-append}
 use Rattle.format.specs.Nodes.{payload_of}
 use Rattle.format.specs.Truth.{or_left, or_right, or_neither}
 use Rattle.format.specs.declared.Bin.{Bin}
-use Rattle.format.specs.declared.ChildSize.{ChildSize}
 use Rattle.format.specs.declared.Node.{Node}
 use Rattle.format.specs.declared.Sizing.{Sizing}
 use Rattle.format.specs.declared.Un.{Un}
@@ -33,7 +32,7 @@ use Rattle.theory.specs.SizedRun.{Storable}
 const_word : (s v : ℕ) → Sized (const s v) → v < 2 ^ 64
 const_word s v ok =
     let small = (size_bounds s (tree_is_size (const s v) ok refl)).1 in
-    omega (arith, allowed s v ChildSize.Absent ChildSize.Absent Sizing.Constant ok, pow_mono {i = 8 * s} {j = 64} (omega arith))
+    omega (arith, allowed s v None None Sizing.Constant ok, pow_mono {i = 8 * s} {j = 64} (omega arith))
 
 module _ (arena : List Node) (w : Ordered arena) (st : Storable arena) where
   -- APPENDING

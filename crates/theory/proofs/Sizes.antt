@@ -1,9 +1,8 @@
 -- What the rules of sizes say, as facts about numbers drawn from their one test `sized`: first over what a rule sees of the
 -- children, then over trees. Assumes nothing.
-use Rattle.std.specs.Prelude.{true, false, ◌↔◌, ◌≡◌, refl, ℕ, ◌*◌, ◌^◌, eqb}
+use Rattle.std.specs.Prelude.{true, false, ◌↔◌, ◌≡◌, refl, ℕ, ◌*◌, ◌^◌, eqb, None, Option, Some}
 use Rattle.std.proofs.Common.{eqb-true, leb-true, ltb-true, eq-eqb, le-leb, lt-ltb}
 use Rattle.format.specs.declared.Bin.{Bin}
-use Rattle.format.specs.declared.ChildSize.{ChildSize}
 use Rattle.format.specs.declared.Sizing.{Sizing}
 use Rattle.format.specs.declared.Un.{Un}
 use Rattle.tree.specs.Form.{is_size, same_size, no_wider, one_size, sized, un_sizing, bin_sizing, size_seen, Sized}
@@ -14,19 +13,19 @@ use Rattle.theory.specs.Sizes.{Allowed, NoWider, OneSize, SameSize, both, free_i
 
 -- A RULE: what it asks of a node of s bytes beside that s is a size. A child that it does not see passes
 
-same_size_lem : (s : ℕ) (child : ChildSize) → (same_size s child ≡ true) ↔ SameSize s child
-same_size_lem s ChildSize.Absent = (λ e. tt, λ h. refl)
-same_size_lem s (ChildSize.Bytes c) = (eqb-true c s, eq-eqb c s)
+same_size_lem : (s : ℕ) (child : Option ℕ) → (same_size s child ≡ true) ↔ SameSize s child
+same_size_lem s None = (λ e. tt, λ h. refl)
+same_size_lem s (Some c) = (eqb-true c s, eq-eqb c s)
 
-no_wider_lem : (s : ℕ) (child : ChildSize) → (no_wider s child ≡ true) ↔ NoWider s child
-no_wider_lem s ChildSize.Absent = (λ e. tt, λ h. refl)
-no_wider_lem s (ChildSize.Bytes c) = (leb-true c s, le-leb c s)
+no_wider_lem : (s : ℕ) (child : Option ℕ) → (no_wider s child ≡ true) ↔ NoWider s child
+no_wider_lem s None = (λ e. tt, λ h. refl)
+no_wider_lem s (Some c) = (leb-true c s, le-leb c s)
 
-one_size_lem : (left right : ChildSize) → (one_size left right ≡ true) ↔ OneSize left right
-one_size_lem ChildSize.Absent right = (λ e. tt, λ h. refl)
-one_size_lem (ChildSize.Bytes c) right = same_size_lem c right
+one_size_lem : (left right : Option ℕ) → (one_size left right ≡ true) ↔ OneSize left right
+one_size_lem None right = (λ e. tt, λ h. refl)
+one_size_lem (Some c) right = same_size_lem c right
 
-module _ (s payload : ℕ) (left right : ChildSize) where
+module _ (s payload : ℕ) (left right : Option ℕ) where
   pub allowed : (rule : Sizing) → sized rule s payload left right ≡ true → Allowed rule s payload left right
   allowed Sizing.Unsized e = eqb-true s 0 e
   allowed Sizing.Input e = tt
@@ -57,24 +56,24 @@ module _ (s payload : ℕ) (left right : ChildSize) where
 -- TREES: a child that is not Top shows its size
 
 pub child_allowed : (rule : Sizing) (s : ℕ) (a : Tree) → is_top a ≡ false →
-    sized rule s 0 (size_seen a) ChildSize.Absent ≡ true → Allowed rule s 0 (ChildSize.Bytes (size a)) ChildSize.Absent
-child_allowed rule s a e h = rw (size_seen_lem a e) at (allowed s 0 (size_seen a) ChildSize.Absent rule h)
+    sized rule s 0 (size_seen a) None ≡ true → Allowed rule s 0 (Some (size a)) None
+child_allowed rule s a e h = rw (size_seen_lem a e) at (allowed s 0 (size_seen a) None rule h)
 
 pub children_allowed : (rule : Sizing) (s : ℕ) (a b : Tree) → is_top a ≡ false → is_top b ≡ false →
-    sized rule s 0 (size_seen a) (size_seen b) ≡ true → Allowed rule s 0 (ChildSize.Bytes (size a)) (ChildSize.Bytes (size b))
+    sized rule s 0 (size_seen a) (size_seen b) ≡ true → Allowed rule s 0 (Some (size a)) (Some (size b))
 children_allowed rule s a b e f h = rw (size_seen_lem a e, size_seen_lem b f) at (allowed s 0 (size_seen a) (size_seen b) rule h)
 
 -- a node over trees from which no Top is reached
 pub unary_sized : (op : Un) (s : ℕ) (a : Tree) → is_size s ≡ true → Sized a → has_top a ≡ false →
-    Allowed (un_sizing op) s 0 (ChildSize.Bytes (size a)) ChildSize.Absent → Sized (unary op s a)
+    Allowed (un_sizing op) s 0 (Some (size a)) None → Sized (unary op s a)
 unary_sized op s a is ok free h =
-    (rw (size_seen_lem a (free_is_top a free)) (allowed_sized s 0 (ChildSize.Bytes (size a)) ChildSize.Absent (un_sizing op) is h), ok)
+    (rw (size_seen_lem a (free_is_top a free)) (allowed_sized s 0 (Some (size a)) None (un_sizing op) is h), ok)
 
 pub binary_sized : (op : Bin) (s : ℕ) (a b : Tree) → is_size s ≡ true → Sized a → Sized b → has_top a ≡ false → has_top b ≡ false →
-    Allowed (bin_sizing op) s 0 (ChildSize.Bytes (size a)) (ChildSize.Bytes (size b)) → Sized (binary op s a b)
+    Allowed (bin_sizing op) s 0 (Some (size a)) (Some (size b)) → Sized (binary op s a b)
 binary_sized op s a b is ok_a ok_b free_a free_b h = (
   rw (size_seen_lem a (free_is_top a free_a), size_seen_lem b (free_is_top b free_b))
-      (allowed_sized s 0 (ChildSize.Bytes (size a)) (ChildSize.Bytes (size b)) (bin_sizing op) is h),
+      (allowed_sized s 0 (Some (size a)) (Some (size b)) (bin_sizing op) is h),
   ok_a,
   ok_b,
 )

@@ -1,11 +1,10 @@
 -- The run keeps the size and the value of a tree from which no Top is reached, whatever the inputs are; so it keeps sizes in any
 -- tree. Assumes nothing.
 -- Throughout, `ok` says that a tree is well sized, and `free` that no Top is reached from it.
-use Rattle.std.specs.Prelude.{true, false, ◌≡◌, refl, ℕ, zero, suc, ◌*◌}
+use Rattle.std.specs.Prelude.{true, false, ◌≡◌, refl, ℕ, zero, suc, ◌*◌, None}
 use Rattle.std.proofs.Common.{true≢false, ◌∙◌, pow_pos}
 use Rattle.format.specs.Header.{size_of}
 use Rattle.format.specs.declared.Bin.{Bin}
-use Rattle.format.specs.declared.ChildSize.{ChildSize}
 use Rattle.format.specs.declared.Un.{Un}
 use Rattle.rules.specs.Rules.{bin_act, un_act}
 use Rattle.rules.specs.Run.{weight}
@@ -139,6 +138,6 @@ bin_act_sized op s a b ok_a ok_b free_a free_b sizes =
     (bin_act_keeps zeros zeros_fit op s a b (sizes, ok_a, ok_b) (rw (free_a, free_b))).sized
 
 pub un_act_sized : (op : Un) (s : ℕ) (a : Tree) → Sized a → has_top a ≡ false →
-    sized (un_sizing op) s 0 (size_seen a) ChildSize.Absent ≡ true → ActSized (un_act op s a) (unary op s a) (unary op s a) s a a
+    sized (un_sizing op) s 0 (size_seen a) None ≡ true → ActSized (un_act op s a) (unary op s a) (unary op s a) s a a
 un_act_sized op s a ok free sizes =
     made_sized (un_act op s a) (unary op s a) (unary op s a) s a a (un_act_keeps zeros zeros_fit op s a (sizes, ok) free).sized

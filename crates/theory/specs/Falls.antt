@@ -1,17 +1,15 @@
 -- What an action makes is no larger than the node that it is for: it weighs less where it is simplified again, and its paths are no
 -- longer. So the run ends, and no tree grows. Assumes nothing.
-use Rattle.std.specs.Prelude.{Bool, cond, ℕ, suc, ◌+◌, ◌*◌, ◌^◌, ◌-◌, ◌≤◌, ◌<◌, eqb, leb}
-use Rattle.std.proofs.Math.Option.{Option, some, none}
+use Rattle.std.specs.Prelude.{Bool, cond, ℕ, suc, ◌+◌, ◌*◌, ◌^◌, ◌-◌, ◌≤◌, ◌<◌, eqb, leb, None, Option, Some}
 use Rattle.std.proofs.Math.Nat.{le-max_left, le-max_right}
 use Rattle.std.proofs.Common.{arith}
 use Rattle.format.specs.declared.Bin.{Bin}
 use Rattle.format.specs.declared.Un.{Un}
 use Rattle.manual.specs.Operations.{int_sub, negative64}
-use Rattle.rules.specs.Rules.{constant_of, bin_view, view, constants, add_inner, sub_inner, rule_of, moved, on_left, on_right, on_equal, decided, bin_act, neg_act, sext_inner, un_act}
+use Rattle.rules.specs.Rules.{constant_of, bin_view, view, add_inner, sub_inner, rule_of, moved, on_left, on_right, on_equal, decided, bin_act, neg_act, sext_inner, un_act}
 use Rattle.rules.specs.Run.{is_sub, sub_at_root, weight}
 use Rattle.rules.specs.declared.Act.{Act}
 use Rattle.rules.specs.declared.Beside.{Beside}
-use Rattle.rules.specs.declared.Constants.{Constants}
 use Rattle.rules.specs.declared.Equals.{Equals}
 use Rattle.rules.specs.declared.View.{View}
 use Rattle.format.specs.Truth.{either}
@@ -106,10 +104,10 @@ under_two op s a b =
     record { fewer = omega arith; shorter = omega (arith, le-max_left (path a) (path b)) }
 
 bin_inside : (op : Bin) (s : ℕ) (a b : Tree) (c : Option ℕ) → InsideView (bin_view op c) (binary op s a b)
-bin_inside Bin.Add s a b none = tt
-bin_inside Bin.Add s a b (some v) = under_two Bin.Add s a b
-bin_inside Bin.Sub s a b none = tt
-bin_inside Bin.Sub s a b (some v) = under_two Bin.Sub s a b
+bin_inside Bin.Add s a b None = tt
+bin_inside Bin.Add s a b (Some v) = under_two Bin.Add s a b
+bin_inside Bin.Sub s a b None = tt
+bin_inside Bin.Sub s a b (Some v) = under_two Bin.Sub s a b
 bin_inside Bin.Mul s a b c = tt
 bin_inside Bin.Xor s a b c = tt
 bin_inside Bin.Or s a b c = tt
@@ -206,22 +204,22 @@ module _ (W P : ℕ) (a b : Tree) where
   equal_falls Equals.Zero g h = tt
   equal_falls Equals.Left g h = itself_within W P a g h
 
-  decided_falls : (op : Bin) (s : ℕ) (alike : Bool) (c : ℕ) (z : Constants) → 2 * (nodes a + 2) + is_sub op ≤ W → 2 * (nodes b + 2) + is_sub op ≤ W →
-      suc (path a) ≤ P → suc (path b) ≤ P → Falls (decided op s alike (view a) (view b) c z) W P a b
-  decided_falls op s alike c Constants.Neither g h p q =
+  decided_falls : (op : Bin) (s : ℕ) (alike : Bool) (c : ℕ) (u v : Option ℕ) → 2 * (nodes a + 2) + is_sub op ≤ W → 2 * (nodes b + 2) + is_sub op ≤ W →
+      suc (path a) ≤ P → suc (path b) ≤ P → Falls (decided op s alike (view a) (view b) c u v) W P a b
+  decided_falls op s alike c None None g h p q =
       either (λ (act : Act). Falls act W P a b) alike (equal_falls (rule_of op).equal (omega arith) p) tt
-  decided_falls op s alike c (Constants.Left m) g h p q =
+  decided_falls op s alike c (Some m) None g h p q =
       either (λ (act : Act). Falls act W P a b) (rule_of op).swaps
       (right_falls ((rule_of op).beside s (view b) m) (beside_falls W P b op s (view b) m (inside b) h q) (omega arith) q) tt
-  decided_falls op s alike c (Constants.Right n) g h p q =
+  decided_falls op s alike c None (Some n) g h p q =
       left_falls ((rule_of op).beside s (view a) n) (beside_falls W P a op s (view a) n (inside a) g p) (omega arith) p
-  decided_falls op s alike c (Constants.Both m n) g h p q = tt
+  decided_falls op s alike c (Some m) (Some n) g h p q = tt
 
 pub binary_falls : (op : Bin) (s : ℕ) (a b : Tree) → Falls (bin_act op s a b) (weight (binary op s a b)) (path (binary op s a b)) a b
 binary_falls op s a b =
     let h = nodes_positive a in
     let h' = nodes_positive b in
-    decided_falls (weight (binary op s a b)) (path (binary op s a b)) a b op s (same a b) (size a) (constants (constant_of a) (constant_of b))
+    decided_falls (weight (binary op s a b)) (path (binary op s a b)) a b op s (same a b) (size a) (constant_of a) (constant_of b)
     (omega arith) (omega arith) (omega (arith, le-max_left (path a) (path b))) (omega (arith, le-max_right (path a) (path b)))
 
 -- RULES OF ONE CHILD

@@ -1,10 +1,9 @@
 -- Why the rule of each kind of two children keeps the value, in numbers: all that depends on the kind is one record, with a line
 -- for each kind. Assumes nothing.
 -- The laws that rest on what an edit in must-fail/ changes are in proofs/Lawful.antt.
-use Rattle.std.specs.Prelude.{Bool, true, false, cond, ◌≡◌, refl, ℕ, ◌*◌, ◌%◌, ◌^◌, ◌≤◌, ◌<◌}
+use Rattle.std.specs.Prelude.{Bool, true, false, cond, ◌≡◌, refl, ℕ, ◌*◌, ◌%◌, ◌^◌, ◌≤◌, ◌<◌, Some}
 use Rattle.std.proofs.Common.{subst}
 use Rattle.format.specs.declared.Bin.{Bin}
-use Rattle.format.specs.declared.ChildSize.{ChildSize}
 use Rattle.format.specs.declared.Sizing.{Sizing}
 use Rattle.rules.specs.Rules.{rule_of}
 use Rattle.rules.specs.declared.Beside.{Beside}
@@ -25,7 +24,7 @@ at_size {x = x} e h = subst (λ (n : ℕ). x < 2 ^ (8 * n)) e h
 -- the operands of a node of s bytes under a rule of sizes: x of c bytes, and y of d bytes
 pub record Operands (rule : Sizing) (s c d x y : ℕ) : Type 0 where
   pub small : s ≤ 8
-  pub sizes : Allowed rule s 0 (ChildSize.Bytes c) (ChildSize.Bytes d)
+  pub sizes : Allowed rule s 0 (Some c) (Some d)
   pub left_fits : x < 2 ^ (8 * c)
   pub right_fits : y < 2 ^ (8 * d)
 
@@ -34,7 +33,7 @@ pub record Operands (rule : Sizing) (s c d x y : ℕ) : Type 0 where
 
 -- the new node (x op #n) may be built and has the value v
 pub record Rebuilt (op : Bin) (s c x n v : ℕ) : Type 0 where
-  pub sizes : Allowed (bin_sizing op) s 0 (ChildSize.Bytes c) (ChildSize.Bytes s)
+  pub sizes : Allowed (bin_sizing op) s 0 (Some c) (Some s)
   pub value_is : bin_value op s c x (n % 2 ^ (8 * s)) ≡ v
 
 abbrev pub BesideKeeps : Beside → (s c x k i v : ℕ) → Type 0
@@ -51,8 +50,8 @@ EqualKeeps Equals.Left s c x v = (c ≡ s) × (x ≡ v)
 
 -- the children may change places
 pub record Swaps (op : Bin) : Type 0 where
-  pub sizes : (s c d : ℕ) → Allowed (bin_sizing op) s 0 (ChildSize.Bytes c) (ChildSize.Bytes d) →
-      Allowed (bin_sizing op) s 0 (ChildSize.Bytes d) (ChildSize.Bytes c)
+  pub sizes : (s c d : ℕ) → Allowed (bin_sizing op) s 0 (Some c) (Some d) →
+      Allowed (bin_sizing op) s 0 (Some d) (Some c)
   pub values : (s c d x y : ℕ) → bin_value op s c x y ≡ bin_value op s d y x
 
 -- all that a kind owes: its values fit, and each part of its rule keeps them

@@ -1,6 +1,5 @@
 -- Inputs without a row: node by node, and that nothing is missing exactly where every input has a row. Assumes nothing.
-use Rattle.std.specs.Prelude.{List, ◌↔◌, ◌≡◌, refl, ℕ, zero, suc, ◌<◌, length}
-use Rattle.std.proofs.Math.Option.{Option, some, none}
+use Rattle.std.specs.Prelude.{List, ◌↔◌, ◌≡◌, refl, ℕ, zero, suc, ◌<◌, length, None, Option, Some}
 use Rattle.std.proofs.Common.{ap₂, arith}
 use Rattle.format.specs.Nodes.{header_of}
 use Rattle.format.specs.declared.Node.{Node}
@@ -41,23 +40,23 @@ module _ (rows : List ℕ) where
 -- an input, given as the tree that it is, has a row
 abbrev pub HasRow : List ℕ → Tree → Type 0
 HasRow rows top = Unit {0}
-HasRow rows (entry s space offset) = found rows (header_of (Node.Entry s space offset)) offset ≡ none → ⊥
+HasRow rows (entry s space offset) = found rows (header_of (Node.Entry s space offset)) offset ≡ None → ⊥
 HasRow rows (const s v) = Unit {0}
-HasRow rows (bind s id) = found rows (header_of (Node.Bind s id)) id ≡ none → ⊥
+HasRow rows (bind s id) = found rows (header_of (Node.Bind s id)) id ≡ None → ⊥
 HasRow rows (unary op s a) = Unit {0}
 HasRow rows (binary op s a b) = Unit {0}
 
-row_there : (row : Option ℕ) (i : ℕ) → (unless_found row i ≡ none) ↔ (row ≡ none → ⊥)
-row_there none i = (λ e n. let z : ◌≡◌ {A = ℕ} 0 1 = cc in omega arith, λ n. absurd (n refl))
-row_there (some v) i = (λ e n. let z : ◌≡◌ {A = ℕ} 0 1 = cc in omega arith, λ n. refl)
+row_there : (row : Option ℕ) (i : ℕ) → (unless_found row i ≡ None) ↔ (row ≡ None → ⊥)
+row_there None i = (λ e n. let z : ◌≡◌ {A = ℕ} 0 1 = cc in omega arith, λ n. absurd (n refl))
+row_there (Some v) i = (λ e n. let z : ◌≡◌ {A = ℕ} 0 1 = cc in omega arith, λ n. refl)
 
-first_none : (a b : Option ℕ) → (first_of a b ≡ none) ↔ ((a ≡ none) × (b ≡ none))
-first_none none b = (λ e. (refl, e), λ p. p.1)
-first_none (some i) b = (λ e. let z : ◌≡◌ {A = ℕ} 0 1 = cc in absurd (omega arith), λ p. p.0)
+first_none : (a b : Option ℕ) → (first_of a b ≡ None) ↔ ((a ≡ None) × (b ≡ None))
+first_none None b = (λ e. (refl, e), λ p. p.1)
+first_none (Some i) b = (λ e. let z : ◌≡◌ {A = ℕ} 0 1 = cc in absurd (omega arith), λ p. p.0)
 
 module _ (rows : List ℕ) (arena : List Node) where
-  step_none : (tree : ℕ → Tree) (f : ℕ → Option ℕ) → ((i : ℕ) → (f i ≡ none) ↔ EveryInput (HasRow rows) (tree i)) →
-      (i : ℕ) (node : Node) → (missing_step rows f i node ≡ none) ↔ EveryInput (HasRow rows) (build tree node)
+  step_none : (tree : ℕ → Tree) (f : ℕ → Option ℕ) → ((i : ℕ) → (f i ≡ None) ↔ EveryInput (HasRow rows) (tree i)) →
+      (i : ℕ) (node : Node) → (missing_step rows f i node ≡ None) ↔ EveryInput (HasRow rows) (build tree node)
   step_none tree f below i Node.Top = (λ e. tt, λ h. refl)
   step_none tree f below i (Node.Entry s space offset) = row_there (found rows (header_of (Node.Entry s space offset)) offset) i
   step_none tree f below i (Node.Const s v) = (λ e. tt, λ h. refl)
@@ -68,11 +67,11 @@ module _ (rows : List ℕ) (arena : List Node) where
     λ h. (first_none (f j) (f k)).1 ((below j).1 h.0, (below k).1 h.1),
   )
 
-  from_none : (steps i : ℕ) → (missing_from rows arena steps i ≡ none) ↔ EveryInput (HasRow rows) (unfolded arena steps i)
+  from_none : (steps i : ℕ) → (missing_from rows arena steps i ≡ None) ↔ EveryInput (HasRow rows) (unfolded arena steps i)
   from_none zero i = (λ e. tt, λ h. refl)
   from_none (suc steps) i = step_none (unfolded arena steps) (missing_from rows arena steps) (from_none steps) i (at arena i)
 
   -- nothing is missing exactly where every input under i has a row
-  pub nothing_missing : (i : ℕ) → (missing rows arena i ≡ none) ↔ EveryInput (HasRow rows) (tree_at arena i)
+  pub nothing_missing : (i : ℕ) → (missing rows arena i ≡ None) ↔ EveryInput (HasRow rows) (tree_at arena i)
   unfolding missing tree_at
   nothing_missing i = from_none (suc i) i

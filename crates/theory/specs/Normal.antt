@@ -1,11 +1,10 @@
 -- The normal form: at every node the rule says keep, and no child is Top. What is normal stays as it is. Assumes nothing.
 -- The laws that rest on what an edit in must-fail/ changes are in proofs/Normal.antt.
-use Rattle.std.specs.Prelude.{Bool, true, false, cond, ◌||◌, ◌≡◌, refl, ℕ, eqb, leb}
-use Rattle.std.proofs.Math.Option.{Option, some, none}
+use Rattle.std.specs.Prelude.{Bool, true, false, cond, ◌||◌, ◌≡◌, refl, ℕ, eqb, leb, None, Option, Some}
 use Rattle.std.proofs.Common.{ap, sym, ◌∙◌, arith}
 use Rattle.format.specs.declared.Bin.{Bin}
 use Rattle.format.specs.declared.Un.{Un}
-use Rattle.rules.specs.Rules.{constant_of, view, constants, rule_of, on_left, on_right, on_equal, decided, bin_act, neg_act, sext_inner, un_act}
+use Rattle.rules.specs.Rules.{constant_of, view, rule_of, on_left, on_right, on_equal, decided, bin_act, neg_act, sext_inner, un_act}
 use Rattle.rules.specs.declared.Act.{Act}
 use Rattle.rules.specs.declared.Beside.{Beside}
 use Rattle.rules.specs.declared.Equals.{Equals}
@@ -102,12 +101,12 @@ swap_if_commuting : (swaps : Bool) (o : Beside) → tag (cond swaps (on_right o)
 swap_if_commuting true o e = (refl, right_swap o e)
 swap_if_commuting false o e = absurd (omega arith)
 
-decided_swap : (op : Bin) (s : ℕ) (p q : Bool) (x y : View) (c d : ℕ) (u v : Option ℕ) → tag (decided op s p x y c (constants u v)) ≡ 1 →
-    ((rule_of op).swaps ≡ true) × (decided op s q y x d (constants v u) ≡ Act.Keep)
-decided_swap op s p q x y c d none none e = absurd (equal_no_swap p (rule_of op).equal e)
-decided_swap op s p q x y c d none (some n) e = absurd (left_no_swap ((rule_of op).beside s x n) e)
-decided_swap op s p q x y c d (some n) none e = swap_if_commuting (rule_of op).swaps ((rule_of op).beside s y n) e
-decided_swap op s p q x y c d (some m) (some n) e = absurd (omega arith)
+decided_swap : (op : Bin) (s : ℕ) (p q : Bool) (x y : View) (c d : ℕ) (u v : Option ℕ) → tag (decided op s p x y c u v) ≡ 1 →
+    ((rule_of op).swaps ≡ true) × (decided op s q y x d v u ≡ Act.Keep)
+decided_swap op s p q x y c d None None e = absurd (equal_no_swap p (rule_of op).equal e)
+decided_swap op s p q x y c d None (Some n) e = absurd (left_no_swap ((rule_of op).beside s x n) e)
+decided_swap op s p q x y c d (Some n) None e = swap_if_commuting (rule_of op).swaps ((rule_of op).beside s y n) e
+decided_swap op s p q x y c d (Some m) (Some n) e = absurd (omega arith)
 
 pub swap_keeps : (op : Bin) (s : ℕ) (a b : Tree) → bin_act op s a b ≡ Act.Swap → ((rule_of op).swaps ≡ true) × (bin_act op s b a ≡ Act.Keep)
 swap_keeps op s a b e = decided_swap op s (same a b) (same b a) (view a) (view b) (size a) (size b) (constant_of a) (constant_of b) (ap tag e)

@@ -1,7 +1,6 @@
 -- What a rule's view of a tree tells of the tree's size and value, in numbers. Assumes nothing.
 -- The laws that rest on what an edit in must-fail/ changes are in proofs/Seen.antt.
-use Rattle.std.specs.Prelude.{◌≡◌, ℕ, ◌*◌, ◌^◌, ◌≤◌, ◌<◌}
-use Rattle.std.proofs.Math.Option.{Option, some, none}
+use Rattle.std.specs.Prelude.{◌≡◌, ℕ, ◌*◌, ◌^◌, ◌≤◌, ◌<◌, None, Option, Some}
 use Rattle.manual.specs.Operations.{int_add, int_sub, int_2comp, int_sext}
 use Rattle.rules.specs.declared.View.{View}
 
@@ -16,5 +15,5 @@ Tells View.Other s x c i = Unit {0}
 
 -- what the number of a constant tells of its size d and value y
 abbrev pub Shows : Option ℕ → (d y : ℕ) → Type 0
-Shows none d y = Unit {0}
-Shows (some n) d y = (y ≡ n) × (n < 2 ^ (8 * d))
+Shows None d y = Unit {0}
+Shows (Some n) d y = (y ≡ n) × (n < 2 ^ (8 * d))

@@ -1,12 +1,11 @@
 -- What the rules of sizes say, as facts about numbers drawn from their one test `sized`: first over what a rule sees of the
 -- children, then over trees. Assumes nothing.
 -- The laws that rest on what an edit in must-fail/ changes are in proofs/Sizes.antt.
-use Rattle.std.specs.Prelude.{Bool, true, false, ◌&&◌, ◌||◌, ◌⊎◌, ◌≡◌, refl, ℕ, ◌*◌, ◌%◌, ◌^◌, ◌≤◌, ◌<◌, eqb}
+use Rattle.std.specs.Prelude.{Bool, true, false, ◌&&◌, ◌||◌, ◌⊎◌, ◌≡◌, refl, ℕ, ◌*◌, ◌%◌, ◌^◌, ◌≤◌, ◌<◌, eqb, None, Option, Some}
 use Rattle.std.proofs.Math.Bool.{and-eq-true_iff}
 use Rattle.std.proofs.Common.{true≢false, inl, inr, ⊎_elim, mod-lt, arith, eqb-true, lt-ltb, pow_pos}
 use Rattle.format.specs.Kinds.{row_of}
 use Rattle.format.specs.declared.Bin.{Bin}
-use Rattle.format.specs.declared.ChildSize.{ChildSize}
 use Rattle.format.specs.declared.Sizing.{Sizing}
 use Rattle.format.specs.declared.Un.{Un}
 use Rattle.tree.specs.Form.{is_size, sized, un_sizing, bin_sizing, size_seen, Sized}
@@ -38,19 +37,19 @@ size_bounds s is =
 
 -- A RULE: what it asks of a node of s bytes beside that s is a size. A child that it does not see passes
 
-abbrev pub SameSize : ℕ → ChildSize → Type 0
-SameSize s ChildSize.Absent = Unit {0}
-SameSize s (ChildSize.Bytes c) = c ≡ s
+abbrev pub SameSize : ℕ → Option ℕ → Type 0
+SameSize s None = Unit {0}
+SameSize s (Some c) = c ≡ s
 
-abbrev pub NoWider : ℕ → ChildSize → Type 0
-NoWider s ChildSize.Absent = Unit {0}
-NoWider s (ChildSize.Bytes c) = c ≤ s
+abbrev pub NoWider : ℕ → Option ℕ → Type 0
+NoWider s None = Unit {0}
+NoWider s (Some c) = c ≤ s
 
-abbrev pub OneSize : ChildSize → ChildSize → Type 0
-OneSize ChildSize.Absent right = Unit {0}
-OneSize (ChildSize.Bytes c) right = SameSize c right
+abbrev pub OneSize : Option ℕ → Option ℕ → Type 0
+OneSize None right = Unit {0}
+OneSize (Some c) right = SameSize c right
 
-abbrev pub Allowed : Sizing → (s payload : ℕ) → (left right : ChildSize) → Type 0
+abbrev pub Allowed : Sizing → (s payload : ℕ) → (left right : Option ℕ) → Type 0
 Allowed Sizing.Unsized s payload left right = s ≡ 0
 Allowed Sizing.Input s payload left right = Unit {0}
 Allowed Sizing.Constant s payload left right = payload < 2 ^ (8 * s)
@@ -69,7 +68,7 @@ Measured Sizing.Shift = Unit {0}
 Measured Sizing.Extension = Unit {0}
 Measured Sizing.Flag = Unit {0}
 
-module _ (s payload : ℕ) (left right : ChildSize) where
+module _ (s payload : ℕ) (left right : Option ℕ) where
   pub sized_is_size : (rule : Sizing) → Measured rule → sized rule s payload left right ≡ true → is_size s ≡ true
   sized_is_size Sizing.Unsized m e = absurd m
   sized_is_size Sizing.Input m e = e
@@ -100,15 +99,15 @@ bin_measured Bin.IntCarry = tt
 bin_measured Bin.IntSCarry = tt
 bin_measured Bin.IntSBorrow = tt
 
-pub un_is_size : (op : Un) (s : ℕ) (left right : ChildSize) → sized (un_sizing op) s 0 left right ≡ true → is_size s ≡ true
+pub un_is_size : (op : Un) (s : ℕ) (left right : Option ℕ) → sized (un_sizing op) s 0 left right ≡ true → is_size s ≡ true
 un_is_size op s left right e = sized_is_size s 0 left right (un_sizing op) (un_measured op) e
 
-pub bin_is_size : (op : Bin) (s : ℕ) (left right : ChildSize) → sized (bin_sizing op) s 0 left right ≡ true → is_size s ≡ true
+pub bin_is_size : (op : Bin) (s : ℕ) (left right : Option ℕ) → sized (bin_sizing op) s 0 left right ≡ true → is_size s ≡ true
 bin_is_size op s left right e = sized_is_size s 0 left right (bin_sizing op) (bin_measured op) e
 
 -- TREES: a child that is not Top shows its size
 
-pub size_seen_lem : (a : Tree) → is_top a ≡ false → size_seen a ≡ ChildSize.Bytes (size a)
+pub size_seen_lem : (a : Tree) → is_top a ≡ false → size_seen a ≡ Some (size a)
 size_seen_lem a e = rw e
 
 pub tree_is_size : (t : Tree) → Sized t → is_top t ≡ false → is_size (size t) ≡ true
@@ -116,7 +115,7 @@ tree_is_size top h e = absurd (true≢false e)
 tree_is_size (entry s space offset) h e = h.0
 tree_is_size (const s v) h e = (parts (is_size s) _ h).0
 tree_is_size (bind s id) h e = h
-tree_is_size (unary op s a) h e = un_is_size op s (size_seen a) ChildSize.Absent h.0
+tree_is_size (unary op s a) h e = un_is_size op s (size_seen a) None h.0
 tree_is_size (binary op s a b) h e = bin_is_size op s (size_seen a) (size_seen b) h.0
 
 pub free_is_top : (t : Tree) → has_top t ≡ false → is_top t ≡ false

@@ -1,10 +1,12 @@
-// The answers of the check and of evaluation, which the definitions in specs/ give for any words.
+// Why the check refuses an arena, and why evaluation gives no value: the definitions in specs/ say when, for any words.
 #![tactic(auto)]
 
-// Of the check: answers 0 to 6.
-#[derive(Clone, Copy)]
-pub enum Verdict {
-    Passed,
+ghost use Rattle.std.specs.Prelude.{◌≡◌};
+ghost use Rattle.tree.specs.declared.EvaluateError.TheVariants.{Refused};
+
+// Answers 1 to 6.
+#[derive(Clone, Copy, Debug, PartialEq, Eq)]
+pub enum Refusal {
     CountAboveCapacity,
     RootNotBelowCount,
     IllFormed(usize),
@@ -13,12 +15,19 @@ pub enum Verdict {
     PathTooLong,
 }
 
-// Of evaluation: the value, or the check's refusal, or 8, 10 and 9.
-#[derive(Clone, Copy)]
-pub enum Evaluated {
-    Value(u64),
-    Refused(Verdict),
+// The check's refusal, or answers 8, 10 and 9.
+#[derive(Clone, Copy, Debug, PartialEq, Eq)]
+pub enum EvaluateError {
+    Refused(Refusal),
     BadRow(usize),
     TopReachable,
     InputMissing(usize),
+}
+
+impl From<Refusal> for EvaluateError {
+    ghost from_gives = { λ refusal error. error ≡ Refused refusal };
+
+    fn from(refusal: Refusal) -> EvaluateError {
+        EvaluateError::Refused(refusal)
+    }
 }

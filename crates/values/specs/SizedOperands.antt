@@ -1,17 +1,14 @@
 -- The operands of a well sized node are what its operator's function asks for. Assumes nothing.
-use Rattle.std.specs.Prelude.{false, ◌≡◌, ℕ, ◌*◌, ◌^◌, ◌≤◌, ◌<◌}
+use Rattle.std.specs.Prelude.{false, ◌≡◌, ℕ, ◌*◌, ◌^◌, ◌≤◌, ◌<◌, None, Option, Some}
 use Rattle.std.proofs.Common.{arith}
 use Rattle.arith.specs.Operands.{Extension}
 use Rattle.format.specs.Kinds.{row_of}
 use Rattle.format.specs.declared.Bin.{Bin}
-use Rattle.format.specs.declared.ChildSize.{ChildSize}
 use Rattle.format.specs.declared.Sizing.{Sizing}
 use Rattle.format.specs.declared.Un.{Un}
 use Rattle.theory.proofs.Keeps.{operands, value_fits}
-use Rattle.theory.specs.Lawful.{Operands}
-use Rattle.theory.specs.Lawful.{at_size}
-use Rattle.theory.specs.Sizes.{Allowed}
-use Rattle.theory.specs.Sizes.{free_is_top, free_left, free_right, size_bounds, tree_is_size}
+use Rattle.theory.specs.Lawful.{Operands, at_size}
+use Rattle.theory.specs.Sizes.{Allowed, free_is_top, free_left, free_right, size_bounds, tree_is_size}
 use Rattle.theory.proofs.Sizes.{child_allowed}
 use Rattle.tree.specs.Form.{un_sizing, bin_sizing, Sized}
 use Rattle.tree.specs.Meaning.{Assignment, Fitting, value}
@@ -20,7 +17,7 @@ use Rattle.values.specs.Operands.{Fitting as Asked}
 
 -- IN NUMBERS: a node of s bytes over x of c bytes, and y of d bytes
 
-un_extension : (op : Un) (s c x : ℕ) → s ≤ 8 → 1 ≤ c → Allowed (un_sizing op) s 0 (ChildSize.Bytes c) ChildSize.Absent → x < 2 ^ (8 * c) →
+un_extension : (op : Un) (s c x : ℕ) → s ≤ 8 → 1 ≤ c → Allowed (un_sizing op) s 0 (Some c) None → x < 2 ^ (8 * c) →
     Extension c s x
 unfolding row_of
 un_extension Un.SignExtend s c x most least sizes fits = record { least = least; wider = sizes; most = most; fits = fits }

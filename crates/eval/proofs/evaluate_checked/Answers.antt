@@ -1,4 +1,5 @@
 -- Rows first, then Tops, then what is missing. Assumes nothing.
+use Rattle.std.specs.Prelude.{Err, Ok, Result}
 use Rattle.std.proofs.Common.{sym}
 use Rattle.eval.specs.EvaluatedLaws.{no_bad_row, evaluated_bad_row, evaluated_top, evaluated_answer}
 use Rattle.eval.proofs.evaluate_checked.Goals as goal

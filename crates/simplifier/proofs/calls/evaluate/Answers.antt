@@ -1,4 +1,5 @@
 -- Evaluate is the check, and then the evaluation. Assumes nothing.
+use Rattle.std.specs.Prelude.{Err, Ok, Result}
 use Rattle.std.proofs.Common.{sym, ◌∙◌}
 use Rattle.eval.specs.Answers.{evaluated_live}
 use Rattle.eval.specs.EvaluatedLaws.{evaluated_checked}
