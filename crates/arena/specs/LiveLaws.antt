@@ -1,22 +1,22 @@
 -- Laws of a live arena: what a node's kind tells of it, that the nodes are in order, and that each tree is its node over its
 -- children's trees. Assumes nothing.
-use Rattle.std.specs.Prelude.{List, ◌≡◌, refl, ℕ, ◌+◌, ◌*◌, ◌/◌, ◌≤◌, ◌<◌, eqb, ltb, length}
-use Rattle.std.proofs.Common.{ap, sym, ◌∙◌, arith}
+use Rattle.std.specs.Prelude.{List, ◌≡◌, refl, ℕ, ◌+◌, ◌*◌, ◌/◌, ◌≤◌, ◌<◌, eqb, ltb, length, get_or, Option, unwrap_or}
+use Rattle.std.proofs.Common.{ap, ap₂, sym, ◌∙◌, arith}
 use Rattle.std.proofs.Math.Decide.{dec_lt}
 use Rattle.std.proofs.Math.Nat.{min-le_left, min-le_right}
-use Rattle.arena.specs.Live.{Live, Good, tree_of, node_size, node_is_top, node_is_const, node_is_leaf}
+use Rattle.arena.specs.Live.{Live, Good, tree_of}
 use Rattle.format.specs.Header.{kind_of}
 use Rattle.format.specs.KindRules.{number_of, leaf_kinds, is_const, is_leaf}
 use Rattle.format.proofs.KindRules.{const_by_kind, leaf_by_kind}
 use Rattle.format.specs.Kinds.{kind_count, shape_of}
 use Rattle.format.specs.Limits.{node_words, max_nodes, capacity, header_at, payload_at}
-use Rattle.format.specs.Nodes.{node_of, shaped, header_of}
+use Rattle.format.specs.Nodes.{node_of, shaped, header_of, payload_of, node_size, node_is_top, node_is_const, node_is_leaf, node_left_child}
 use Rattle.format.proofs.NodesOfWords.{node_of_unknown}
 use Rattle.format.specs.declared.Node.{Node}
 use Rattle.format.specs.declared.Shape.{Shape}
 use Rattle.rules.specs.Run.{left_child}
 use Rattle.tree.specs.Arena.{node_at, nodes_of, at, build, Below, Ordered}
-use Rattle.tree.specs.ArenaLaws.{length-nodes_of, at-nodes_of, tree_eq}
+use Rattle.tree.specs.ArenaLaws.{length-nodes_of, nodes_of_cong, at-nodes_of, tree_eq}
 use Rattle.tree.specs.Tree.{Tree, size, is_top}
 
 -- what the capacity allows
@@ -43,6 +43,15 @@ module _ (tree : ℕ → Tree) where
   top_of_node (Node.Bind s d) = refl
   top_of_node (Node.Unary op s j) = refl
   top_of_node (Node.Binary op s j k) = refl
+
+-- a leaf's left child is itself, where one is asked for
+left_or : (node : Node) (i : ℕ) → unwrap_or (node_left_child node) i ≡ left_child node i
+left_or Node.Top i = refl
+left_or (Node.Entry s sp o) i = refl
+left_or (Node.Const s v) i = refl
+left_or (Node.Bind s d) i = refl
+left_or (Node.Unary op s j) i = refl
+left_or (Node.Binary op s j k) i = refl
 
 -- a node is a constant, or a leaf, if its shape is
 module _ (word payload : ℕ) where
@@ -91,6 +100,27 @@ live_ordered {words} {count} l i b =
     let h : i < count = omega (arith, length-nodes_of count words) in
     rw (at-nodes_of count words i h) (l.good i h).below
 
+-- words that agree below the count hold the same live arena
+module _ {words : List ℕ} {count : ℕ} (l : Live words count) (after : List ℕ) (same_length : length after ≡ length words)
+    (kept : (k : ℕ) → k < node_words * count → get_or after k 0 ≡ get_or words k 0) where
+  pub node_kept : (i : ℕ) → i < count → node_at after i ≡ node_at words i
+  node_kept i h = ap₂ node_of (kept (node_words * i) (omega arith)) (kept (node_words * i + 1) (omega arith))
+
+  pub nodes_kept : nodes_of count after ≡ nodes_of count words
+  nodes_kept = nodes_of_cong count words after node_kept
+
+  pub good_kept : (i : ℕ) → i < count → Good after i
+  good_kept i h =
+      let g = l.good i h in
+      record {
+        header_is = ap header_of (node_kept i h) ∙ g.header_is ∙ sym (kept (node_words * i) (omega arith));
+        payload_is = ap payload_of (node_kept i h) ∙ g.payload_is ∙ sym (kept (node_words * i + 1) (omega arith));
+        below = rw (node_kept i h) g.below;
+      }
+
+  pub live_kept : Live after count
+  live_kept = record { room = rw same_length l.room; good = good_kept; sized = λ i h. rw nodes_kept (l.sized i h) }
+
 module _ {words : List ℕ} {count : ℕ} (l : Live words count) (i : ℕ) (h : i < count) where
   -- node i's words lie in the slice
   pub node_inside : node_words * i + 1 < length words
@@ -121,6 +151,8 @@ module _ {words : List ℕ} {count : ℕ} (l : Live words count) (i : ℕ) (h : 
   left_below (Node.Binary op s j k) b = omega (arith, b.0)
 
   -- the left child that was read off the words is the arena's
-  pub left_child_at : (node : Node) → node ≡ node_at words i → (left_child node i ≡ left_child (at (nodes_of count words) i) i) × (left_child node i < count)
-  left_child_at node e =
-      (ap (λ (n : Node). left_child n i) (e ∙ sym (at-nodes_of count words i h)), left_below node (below_at node (sym e)))
+  pub left_child_at : (left : Option ℕ) → left ≡ node_left_child (node_at words i) →
+      (unwrap_or left i ≡ left_child (at (nodes_of count words) i) i) × (unwrap_or left i < count)
+  left_child_at left e =
+      rw (e, left_or (node_at words i) i)
+      (ap (λ (n : Node). left_child n i) (sym (at-nodes_of count words i h)), left_below (node_at words i) (below_at (node_at words i) refl))

@@ -4,15 +4,15 @@ use Rattle.std.proofs.Common.{ap, ap₂, sym, ◌∙◌, subst, arith, length-se
 use Rattle.std.proofs.Math.Decide.{dec_lt}
 use Rattle.arena.specs.Ended.{Ended, Did}
 use Rattle.arena.specs.Live.{Live, Good, New}
-use Rattle.arena.specs.LiveLaws.{capacity_room, live_ordered}
-use Rattle.arena.specs.declared.Step.{Step}
+use Rattle.arena.specs.LiveLaws.{capacity_room, live_ordered, nodes_kept, good_kept, live_kept}
+use Rattle.arena.specs.Step.{Step}
 use Rattle.format.specs.Limits.{node_words, capacity, header_at, payload_at}
 use Rattle.format.specs.Nodes.{node_of, header_of, payload_of}
 use Rattle.format.proofs.NodesOfWords.{node_of_header}
 use Rattle.format.specs.declared.Node.{Node}
 use Rattle.rules.specs.Run.{append}
 use Rattle.tree.specs.Arena.{node_at, nodes_of, tree_at, Below}
-use Rattle.tree.specs.ArenaLaws.{length-nodes_of, nodes_of_cong, length_appended, appended_extends, tree_stays, tree_appended}
+use Rattle.tree.specs.ArenaLaws.{length-nodes_of, length_appended, appended_extends, tree_stays, tree_appended}
 use Rattle.tree.specs.Form.{Sized}
 
 module _ (words : List ℕ) (count : ℕ) (live : Live words count) (node : Node) (new : New (nodes_of count words) node) where
@@ -54,11 +54,16 @@ module _ (words : List ℕ) (count : ℕ) (live : Live words count) (node : Node
     node_stored : node_at after count ≡ node
     node_stored = ap₂ node_of header_stored payload_stored ∙ node_of_header node new.narrow
 
-    node_kept : (i : ℕ) → i < count → node_at after i ≡ node_at words i
-    node_kept i h = ap₂ node_of (other (node_words * i) (λ e. omega arith) (λ e. omega arith)) (other (node_words * i + 1) (λ e. omega arith) (λ e. omega arith))
+    kept : (k : ℕ) → k < node_words * count → get_or after k 0 ≡ get_or words k 0
+    kept k h = other k (λ e. omega arith) (λ e. omega arith)
+
+    -- after the first word the arena is as it was
+    pub half_live : Live half count
+    half_live =
+        live_kept live half (simp length-set) (λ k h. get_or-set_other words (node_words * count) k (header_of node) 0 (λ e. omega arith))
 
     nodes_are : nodes_of (suc count) after ≡ nodes_of count words ++ node ∷ []
-    nodes_are = ap₂ (λ (a : List Node) (n : Node). a ++ n ∷ []) (nodes_of_cong count words after node_kept) node_stored
+    nodes_are = ap₂ (λ (a : List Node) (n : Node). a ++ n ∷ []) (nodes_kept live after same_length kept) node_stored
 
     good_new : Good after count
     good_new = record {
@@ -67,20 +72,11 @@ module _ (words : List ℕ) (count : ℕ) (live : Live words count) (node : Node
       below = rw node_stored (subst (λ (n : ℕ). Below n node) (length-nodes_of count words) new.below);
     }
 
-    good_old : (i : ℕ) → i < count → Good after i
-    good_old i h =
-        let g = live.good i h in
-        record {
-          header_is = ap header_of (node_kept i h) ∙ g.header_is ∙ sym (other (node_words * i) (λ e. omega arith) (λ e. omega arith));
-          payload_is = ap payload_of (node_kept i h) ∙ g.payload_is ∙ sym (other (node_words * i + 1) (λ e. omega arith) (λ e. omega arith));
-          below = rw (node_kept i h) g.below;
-        }
-
     good : (i : ℕ) → i < suc count → Good after i
     good i h = go (dec_lt i count)
       where
         go : Dec (i < count) → Good after i
-        go (yes p) = good_old i p
+        go (yes p) = good_kept live after same_length kept i p
         go (no p) = let e : i ≡ count = omega arith in rw e good_new
 
     sized : (i : ℕ) → i < suc count → Sized (tree_at (nodes_of count words ++ node ∷ []) i)
@@ -95,12 +91,9 @@ module _ (words : List ℕ) (count : ℕ) (live : Live words count) (node : Node
             subst (λ (n : ℕ). Sized (tree_at (nodes_of count words ++ node ∷ []) n)) e
             (rw (tree_appended (nodes_of count words) node (live_ordered live) new.below) new.sized)
 
-    live_after : Live after (suc count)
-    live_after = record { room = rw same_length room; good = good; sized = λ i h. rw nodes_are (sized i h) }
-
     did : Did words after (append node (nodes_of count words)) count (suc count)
     did = record {
-      live = live_after;
+      live = record { room = rw same_length room; good = good; sized = λ i h. rw nodes_are (sized i h) };
       nodes_are = nodes_are;
       root_is = sym (length-nodes_of count words);
       root_below = omega arith;
@@ -110,7 +103,7 @@ module _ (words : List ℕ) (count : ℕ) (live : Live words count) (node : Node
     pub pushed : Ended words after count (append node (nodes_of count words)) (Step.Done count (count + 1))
     pushed = record {
       same_length = same_length;
-      kept = λ k h. other k (λ e. omega arith) (λ e. omega arith);
+      kept = kept;
       past = λ k h. other k (λ e. omega arith) (λ e. omega arith);
       ran = let e : suc count ≡ count + 1 = omega arith in subst (λ (m : ℕ). Did words after (append node (nodes_of count words)) count m) e did;
     }

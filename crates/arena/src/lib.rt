@@ -4,9 +4,8 @@
 ghost use Rattle.std.specs.Prelude.{◌≡◌, ◌+◌, ◌*◌, ◌<◌, length};
 ghost use Rattle.format.specs.Limits.{node_words, capacity as capacity_of, header_at, payload_at};
 ghost use Rattle.tree.specs.Arena.{node_at, nodes_of};
-ghost use Rattle.rules.specs.Run.{append, left_child, near as near_of};
-ghost use Rattle.arena.specs.Live.{Live, New, node_size, node_is_top, node_is_const, node_is_leaf};
-ghost use Rattle.arena.specs.Ended.{Ended};
+ghost use Rattle.arena.specs.Live.{Live};
+ghost use Rattle.arena.specs.LiveProp.{Live-prop};
 
 use format::Node;
 use rules::Near;
@@ -17,22 +16,14 @@ const KIND_CONST: usize = 2;
 // How many kinds have no children: the first ones, Top, Entry, Const and Bind.
 const LEAF_KINDS: usize = 4;
 
-// How a run that appends ends: at an index, with a new count, or without room for a node.
-#[derive(Clone, Copy)]
-pub enum Step {
-    Done(usize, usize),
-    NoRoom,
-}
-
-// How many nodes a slice of `len` words holds.
+/// How many nodes a slice of `len` words holds.
 pub fn capacity(len: usize) -> usize
     ensures { result ≡ capacity_of len }
 {
-    let nodes = len / NODE_WORDS;
-    if nodes < MAX_NODES { nodes } else { MAX_NODES }
+    (len / NODE_WORDS).min(MAX_NODES)
 }
 
-// A node's two words.
+/// Node i's first word, its header. Whether it is a node's at all may not have been checked.
 pub fn header_at(words: &[u64], i: usize) -> u64
     requires { node_words * i + 1 < length words.now }
     ensures { result ≡ header_at words.now i }
@@ -40,6 +31,7 @@ pub fn header_at(words: &[u64], i: usize) -> u64
     words[NODE_WORDS * i]
 }
 
+/// Node i's second word.
 pub fn payload_at(words: &[u64], i: usize) -> u64
     requires { node_words * i + 1 < length words.now }
     ensures { result ≡ payload_at words.now i }
@@ -47,6 +39,7 @@ pub fn payload_at(words: &[u64], i: usize) -> u64
     words[NODE_WORDS * i + 1]
 }
 
+/// The node that those two words stand for.
 pub fn node_at(words: &[u64], i: usize) -> Node
     requires { node_words * i + 1 < length words.now }
     ensures { result ≡ node_at words.now i }
@@ -54,87 +47,108 @@ pub fn node_at(words: &[u64], i: usize) -> Node
     words::nodes::node_of(header_at(words, i), payload_at(words, i))
 }
 
-// Whether node i is a constant, by its kind alone.
-pub fn is_const(words: &[u64], i: usize) -> bool
-    requires { node_words * i + 1 < length words.now }
-    ensures { result ≡ node_is_const (node_at words.now i) }
-{
-    words::fields::kind_of(header_at(words, i)) == KIND_CONST
+/// A slice whose first `count` nodes have passed the check, or have been appended to such, for reading.
+#[derive(Clone, Copy)]
+pub struct Nodes<'a> {
+    pub words: &'a [u64],
+    pub count: usize,
+    pub ghost live: { Live words.now count } by { Live-prop words.now count },
 }
 
-// Whether node i has no children, by its kind alone.
-pub fn is_leaf(words: &[u64], count: usize, i: usize) -> bool
-    requires live { Live words.now count }
-    requires i_lt_count { i < count }
-    ensures { result ≡ node_is_leaf (node_at words.now i) }
-{
-    words::fields::kind_of(header_at(words, i)) < LEAF_KINDS
-}
+impl Nodes<'_> {
+    ghost use Rattle.rules.specs.Run.{near as near_of};
+    ghost use Rattle.format.specs.Nodes.{node_is_const, node_is_leaf};
 
-pub fn size_of(node: Node) -> u64
-    ensures { result ≡ node_size node }
-{
-    match node {
-        Node::Top => 0,
-        Node::Entry(size, _, _) => size,
-        Node::Const(size, _) => size,
-        Node::Bind(size, _) => size,
-        Node::Unary(_, size, _) => size,
-        Node::Binary(_, size, _, _) => size,
+    pub fn header(self, i: usize) -> u64
+        requires { i < self.count }
+        ensures { result ≡ header_at self.entry.words.now i }
+    {
+        header_at(self.words, i)
+    }
+
+    pub fn payload(self, i: usize) -> u64
+        requires { i < self.count }
+        ensures { result ≡ payload_at self.entry.words.now i }
+    {
+        payload_at(self.words, i)
+    }
+
+    pub fn node(self, i: usize) -> Node
+        requires { i < self.count }
+        ensures { result ≡ node_at self.entry.words.now i }
+    {
+        node_at(self.words, i)
+    }
+
+    /// Whether node i is a constant, by its kind alone.
+    pub fn is_const(self, i: usize) -> bool
+        requires { i < self.count }
+        ensures { result ≡ node_is_const (node_at self.entry.words.now i) }
+    {
+        words::fields::kind_of(self.header(i)) == KIND_CONST
+    }
+
+    /// Whether node i has no children, by its kind alone.
+    pub fn is_leaf(self, i: usize) -> bool
+        requires { i < self.count }
+        ensures { result ≡ node_is_leaf (node_at self.entry.words.now i) }
+    {
+        words::fields::kind_of(self.header(i)) < LEAF_KINDS
+    }
+
+    /// The node that a rule has named, near a node whose simplified children are a and b. No rule asks for a leaf's child.
+    pub fn near(self, which: Near, a: usize, b: usize) -> usize
+        requires { (a < self.count) × (b < self.count) }
+        ensures { (result ≡ near_of which (nodes_of self.entry.count self.entry.words.now) a b) × (result < self.entry.count) }
+    {
+        match which {
+            Near::Left => a,
+            Near::Right => b,
+            Near::LeftLeft => self.node(a).left_child().unwrap_or(a),
+            Near::RightLeft => self.node(b).left_child().unwrap_or(b),
+        }
     }
 }
 
-pub fn is_top(node: Node) -> bool
-    ensures { result ≡ node_is_top node }
-{
-    match node {
-        Node::Top => true,
-        Node::Entry(_, _, _) => false,
-        Node::Const(_, _) => false,
-        Node::Bind(_, _) => false,
-        Node::Unary(_, _, _) => false,
-        Node::Binary(_, _, _, _) => false,
-    }
+/// There is no room for another node.
+#[derive(Clone, Copy, Debug, PartialEq, Eq)]
+pub struct NoRoom;
+
+/// A slice whose first `count` nodes have passed the check, or have been appended to such, and that nodes are appended to.
+#[derive(Drop)]
+pub struct Arena<'a> {
+    pub words: &'a mut [u64],
+    pub count: usize,
+    pub ghost live: { Live words.now count } by { Live-prop words.now count },
 }
 
-// The left child of node i. A leaf has none, and no rule asks for it.
-fn left_child(node: Node, i: usize) -> usize
-    ensures { result ≡ left_child node i }
-{
-    match node {
-        Node::Top => i,
-        Node::Entry(_, _, _) => i,
-        Node::Const(_, _) => i,
-        Node::Bind(_, _) => i,
-        Node::Unary(_, _, left) => left,
-        Node::Binary(_, _, left, _) => left,
-    }
-}
+impl Arena<'_> {
+    ghost use Rattle.rules.specs.Run.{append};
+    ghost use Rattle.arena.specs.Live.{New};
+    ghost use Rattle.arena.specs.Ends.{Ends};
 
-// The node that a rule has named, near a node whose simplified children are a and b.
-pub fn near(words: &[u64], count: usize, which: Near, a: usize, b: usize) -> usize
-    requires live { Live words.now count }
-    requires a_lt_count { (a < count) × (b < count) }
-    ensures { (result ≡ near_of which (nodes_of count words.now) a b) × (result < count) }
-{
-    match which {
-        Near::Left => a,
-        Near::Right => b,
-        Near::LeftLeft => left_child(node_at(words, a), a),
-        Near::RightLeft => left_child(node_at(words, b), b),
+    pub fn nodes(&self) -> Nodes<'_>
+        ensures words { result.words.now ≡ self.now.words.now }
+        ensures count { result.count ≡ self.now.count }
+    {
+        Nodes {
+            words: self.words,
+            count: self.count,
+        }
     }
-}
 
-// Appends a node: the one place that writes one.
-pub fn push(words: &mut [u64], count: usize, node: Node) -> Step
-    requires live { Live words.old count }
-    requires new { New (nodes_of count words.old) node }
-    ensures { Ended words.old words.new count (append node (nodes_of count words.old)) result }
-{
-    if capacity(words.len()) <= count {
-        return Step::NoRoom;
+    /// Appends a node, and says where it stands: the one place that writes one.
+    pub fn push(&mut self, node: Node) -> Result<usize, NoRoom>
+        requires new { New (nodes_of self.old.count self.old.words.now) node }
+        ensures { Ends self.old self.new (append node (nodes_of self.old.count self.old.words.now)) result }
+    {
+        let at = self.count;
+        if capacity(self.words.len()) <= at {
+            return Err(NoRoom);
+        }
+        self.words[NODE_WORDS * at] = words::nodes::header_of(node);
+        self.words[NODE_WORDS * at + 1] = words::nodes::payload_of(node);
+        self.count = at + 1;
+        Ok(at)
     }
-    words[NODE_WORDS * count] = words::nodes::header_of(node);
-    words[NODE_WORDS * count + 1] = words::nodes::payload_of(node);
-    Step::Done(count, count + 1)
 }

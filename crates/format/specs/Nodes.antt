@@ -1,5 +1,5 @@
 -- The node that two words stand for, and the two words of a node. Assumes nothing.
-use Rattle.std.specs.Prelude.{ℕ, ◌<◌, ◌^◌}
+use Rattle.std.specs.Prelude.{Bool, true, false, Option, Some, None, ℕ, ◌<◌, ◌^◌}
 use Rattle.format.specs.Header.{header, kind_of, size_of, left_of, right_of, space_of}
 use Rattle.format.specs.Kinds.{shape_of, un_number, bin_number}
 use Rattle.format.specs.declared.Node.{Node}
@@ -41,3 +41,45 @@ Narrow (Node.Const size value) = size < 2 ^ 8
 Narrow (Node.Bind size id) = size < 2 ^ 8
 Narrow (Node.Unary op size left) = (size < 2 ^ 8) × (left < 2 ^ 16)
 Narrow (Node.Binary op size left right) = (size < 2 ^ 8) × (left < 2 ^ 16) × (right < 2 ^ 16)
+
+-- what a node says by itself
+abbrev pub node_size : Node → ℕ
+node_size Node.Top = 0
+node_size (Node.Entry size space offset) = size
+node_size (Node.Const size value) = size
+node_size (Node.Bind size id) = size
+node_size (Node.Unary op size left) = size
+node_size (Node.Binary op size left right) = size
+
+abbrev pub node_is_top : Node → Bool
+node_is_top Node.Top = true
+node_is_top (Node.Entry size space offset) = false
+node_is_top (Node.Const size value) = false
+node_is_top (Node.Bind size id) = false
+node_is_top (Node.Unary op size left) = false
+node_is_top (Node.Binary op size left right) = false
+
+abbrev pub node_is_const : Node → Bool
+node_is_const Node.Top = false
+node_is_const (Node.Entry size space offset) = false
+node_is_const (Node.Const size value) = true
+node_is_const (Node.Bind size id) = false
+node_is_const (Node.Unary op size left) = false
+node_is_const (Node.Binary op size left right) = false
+
+abbrev pub node_is_leaf : Node → Bool
+node_is_leaf Node.Top = true
+node_is_leaf (Node.Entry size space offset) = true
+node_is_leaf (Node.Const size value) = true
+node_is_leaf (Node.Bind size id) = true
+node_is_leaf (Node.Unary op size left) = false
+node_is_leaf (Node.Binary op size left right) = false
+
+-- the one child, or the first of two
+abbrev pub node_left_child : Node → Option ℕ
+node_left_child Node.Top = None
+node_left_child (Node.Entry size space offset) = None
+node_left_child (Node.Const size value) = None
+node_left_child (Node.Bind size id) = None
+node_left_child (Node.Unary op size left) = Some left
+node_left_child (Node.Binary op size left right) = Some left

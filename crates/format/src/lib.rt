@@ -1,6 +1,9 @@
 // What a node's two words stand for: the types that the definitions in specs/ and the code share.
 #![tactic(auto)]
 
+ghost use Rattle.std.specs.Prelude.{◌≡◌};
+ghost use Rattle.format.specs.Nodes.{node_size, node_is_top, node_left_child};
+
 // The operators of one child.
 #[derive(Clone, Copy)]
 pub enum Un {
@@ -65,4 +68,36 @@ pub enum Node {
     Bind(u64, u64),
     Unary(Un, u64, usize),
     Binary(Bin, u64, usize, usize),
+}
+
+impl Node {
+    /// In bytes. A Top has no size, and answers 0.
+    pub fn size(self) -> u64
+        ensures { result ≡ node_size self }
+    {
+        match self {
+            Node::Top => 0,
+            Node::Entry(size, ..)
+            | Node::Const(size, _)
+            | Node::Bind(size, _)
+            | Node::Unary(_, size, _)
+            | Node::Binary(_, size, ..) => size,
+        }
+    }
+
+    pub fn is_top(self) -> bool
+        ensures { result ≡ node_is_top self }
+    {
+        matches!(self, Node::Top)
+    }
+
+    /// The one child of a unary node, or the first of a binary one.
+    pub fn left_child(self) -> Option<usize>
+        ensures { result ≡ node_left_child self }
+    {
+        match self {
+            Node::Unary(_, _, left) | Node::Binary(_, _, left, _) => Some(left),
+            _ => None,
+        }
+    }
 }
