@@ -6,8 +6,8 @@ ghost use Rattle.rules.specs.Call.{simplified_answer, words_after};
 ghost use Rattle.simplifier.specs.Replies.{check_reply, simplify_reply, evaluate_reply};
 
 use crate::calls;
-use rules::Simplified;
-use tree::{Evaluated, Verdict};
+use rules::{Simplified, SimplifyError};
+use tree::{EvaluateError, Refusal};
 
 #[repr(C)]
 #[derive(Clone, Copy)]
@@ -33,119 +33,85 @@ pub struct EvaluateReply {
     pub value: u64,
 }
 
-fn check_reply(verdict: Verdict) -> CheckReply
-    ensures { result ≡ check_reply verdict }
-{
-    match verdict {
-        Verdict::Passed => CheckReply {
-            number: 0,
-            place: 0,
-        },
-        Verdict::CountAboveCapacity => CheckReply {
-            number: 1,
-            place: 0,
-        },
-        Verdict::RootNotBelowCount => CheckReply {
-            number: 2,
-            place: 0,
-        },
-        Verdict::IllFormed(i) => CheckReply {
-            number: 3,
-            place: i as u64,
-        },
-        Verdict::IllSized(i) => CheckReply {
-            number: 4,
-            place: i as u64,
-        },
-        Verdict::TooManyNodes => CheckReply {
-            number: 5,
-            place: 0,
-        },
-        Verdict::PathTooLong => CheckReply {
-            number: 6,
-            place: 0,
-        },
+impl From<Result<(), Refusal>> for CheckReply {
+    ghost from_gives = { λ verdict reply. reply ≡ check_reply verdict };
+
+    fn from(verdict: Result<(), Refusal>) -> CheckReply {
+        match verdict {
+            Ok(()) => CheckReply {
+                number: 0,
+                place: 0,
+            },
+            Err(refusal) => CheckReply {
+                number: refusal.number(),
+                place: refusal.place() as u64,
+            },
+        }
     }
 }
 
-fn simplify_reply(answer: Simplified, count: u64) -> SimplifyReply
-    ensures { result ≡ simplify_reply answer count }
-{
-    match answer {
-        Simplified::Done(root, n) => SimplifyReply {
-            number: 0,
-            place: 0,
-            root: root as u64,
-            count: n as u64,
-        },
-        Simplified::Refused(verdict) => {
-            let refusal = check_reply(verdict);
-            SimplifyReply {
-                number: refusal.number,
-                place: refusal.place,
+impl SimplifyReply {
+    /// The reply of a call that was handed `count` nodes.
+    fn new(answer: Result<Simplified, SimplifyError>, count: u64) -> SimplifyReply
+        ensures { result ≡ simplify_reply answer count }
+    {
+        match answer {
+            Ok(to) => SimplifyReply {
+                number: 0,
+                place: 0,
+                root: to.root as u64,
+                count: to.count as u64,
+            },
+            Err(SimplifyError::Refused(refusal)) => SimplifyReply {
+                number: refusal.number(),
+                place: refusal.place() as u64,
                 root: 0,
-                count: count,
-            }
+                count,
+            },
+            Err(SimplifyError::NoRoom) => SimplifyReply {
+                number: 7,
+                place: 0,
+                root: 0,
+                count,
+            },
         }
-        Simplified::NoRoom => SimplifyReply {
-            number: 7,
-            place: 0,
-            root: 0,
-            count: count,
-        },
     }
 }
 
-fn evaluate_reply(answer: Evaluated) -> EvaluateReply
-    ensures { result ≡ evaluate_reply answer }
-{
-    match answer {
-        Evaluated::Value(value) => EvaluateReply {
-            number: 0,
-            place: 0,
-            value: value,
-        },
-        Evaluated::Refused(verdict) => {
-            let refusal = check_reply(verdict);
-            EvaluateReply {
-                number: refusal.number,
-                place: refusal.place,
-                value: 0,
-            }
+impl From<Result<u64, EvaluateError>> for EvaluateReply {
+    ghost from_gives = { λ answer reply. reply ≡ evaluate_reply answer };
+
+    fn from(answer: Result<u64, EvaluateError>) -> EvaluateReply {
+        let (number, place, value) = match answer {
+            Ok(value) => (0, 0, value),
+            Err(EvaluateError::Refused(refusal)) => (refusal.number(), refusal.place(), 0),
+            Err(EvaluateError::BadRow(j)) => (8, j, 0),
+            Err(EvaluateError::TopReachable) => (10, 0, 0),
+            Err(EvaluateError::InputMissing(i)) => (9, i, 0),
+        };
+        EvaluateReply {
+            number,
+            place: place as u64,
+            value,
         }
-        Evaluated::BadRow(j) => EvaluateReply {
-            number: 8,
-            place: j as u64,
-            value: 0,
-        },
-        Evaluated::TopReachable => EvaluateReply {
-            number: 10,
-            place: 0,
-            value: 0,
-        },
-        Evaluated::InputMissing(i) => EvaluateReply {
-            number: 9,
-            place: i as u64,
-            value: 0,
-        },
     }
 }
 
 pub fn santofunye_check(words: &[u64], count: usize, root: usize) -> CheckReply
     ensures { result ≡ check_reply (checked words.now count root) }
 {
-    check_reply(calls::check(words, count, root))
+    calls::check(words, count, root).into()
 }
 
 pub fn santofunye_simplify(words: &mut [u64], count: usize, root: usize) -> SimplifyReply
     ensures answer { result ≡ simplify_reply (simplified_answer words.old count root) count }
     ensures left { words.new ≡ words_after words.old count root }
 {
-    simplify_reply(calls::simplify(words, count, root), count as u64)
+    SimplifyReply::new(calls::simplify(words, count, root), count as u64)
 }
 
 pub fn santofunye_evaluate(words: &[u64], count: usize, root: usize, rows: &[u64]) -> EvaluateReply
     ensures { result ≡ evaluate_reply (evaluated words.now count root rows.now) }
 {
-    evaluate_reply(calls::evaluate(words, count, root, rows))
+    calls::evaluate(words, count, root, rows).into()
 }

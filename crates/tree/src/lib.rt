@@ -15,6 +15,34 @@ pub enum Refusal {
     PathTooLong,
 }
 
+impl Refusal {
+    ghost use Rattle.tree.specs.Form.{refusal_number, refusal_place};
+
+    /// The answer's number.
+    pub fn number(self) -> u64
+        ensures { result ≡ refusal_number self }
+    {
+        match self {
+            Refusal::CountAboveCapacity => 1,
+            Refusal::RootNotBelowCount => 2,
+            Refusal::IllFormed(_) => 3,
+            Refusal::IllSized(_) => 4,
+            Refusal::TooManyNodes => 5,
+            Refusal::PathTooLong => 6,
+        }
+    }
+
+    /// The place: the index of the node that is not well formed or not well sized, or 0.
+    pub fn place(self) -> usize
+        ensures { result ≡ refusal_place self }
+    {
+        match self {
+            Refusal::IllFormed(i) | Refusal::IllSized(i) => i,
+            _ => 0,
+        }
+    }
+}
+
 // The check's refusal, or answers 8, 10 and 9.
 #[derive(Clone, Copy, Debug, PartialEq, Eq)]
 pub enum EvaluateError {
