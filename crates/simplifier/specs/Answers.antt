@@ -3,6 +3,7 @@ use Rattle.std.specs.Prelude.{List, ◌≡◌, ℕ, Err, Ok, Result}
 use Rattle.std.proofs.Math.Path.{ap}
 use Rattle.rules.specs.Call.{ran_on, fits, ended, after_check, words_left, simplified_answer, words_after, SimplifiedAnswer, done}
 use Rattle.rules.specs.Run.{Out}
+use Rattle.simplifier.proofs.Refused.{simplify_refused}
 use Rattle.rules.specs.declared.SimplifyError.{SimplifyError}
 use Rattle.tree.specs.Form.{checked, Verdict}
 use Rattle.tree.specs.declared.Refusal.{Refusal}
@@ -20,12 +21,11 @@ module _ (words : List ℕ) (count root : ℕ) where
   unfolding words_after
   passed_words e = ap (λ (r : SimplifiedAnswer). words_left r words count o) (passed_answer e)
 
-  -- the check refused: v is its verdict, which sends every answer to a refusal
-  pub refused_answer : (v : Verdict) → checked words count root ≡ v → ((next : SimplifiedAnswer) → after_check v next ≡ Err (SimplifyError.Refused v)) →
-      simplified_answer words count root ≡ Err (SimplifyError.Refused v)
+  -- the check refused
+  pub refused_answer : (refusal : Refusal) → checked words count root ≡ Err refusal → simplified_answer words count root ≡ Err (SimplifyError.Refused refusal)
   unfolding simplified_answer
-  refused_answer v e f = rw e (f (ended (fits words o) o))
+  refused_answer refusal e = rw e (simplify_refused refusal (ended (fits words o) o))
 
-  pub refused_words : (v : Verdict) → checked words count root ≡ v → ((next : SimplifiedAnswer) → after_check v next ≡ Err (SimplifyError.Refused v)) → words_after words count root ≡ words
+  pub refused_words : (refusal : Refusal) → checked words count root ≡ Err refusal → words_after words count root ≡ words
   unfolding words_after
-  refused_words v e f = ap (λ (r : SimplifiedAnswer). words_left r words count o) (refused_answer v e f)
+  refused_words refusal e = ap (λ (r : SimplifiedAnswer). words_left r words count o) (refused_answer refusal e)

@@ -6,7 +6,7 @@ use Rattle.std.proofs.Math.Seq.{drop-nil}
 use Rattle.arena.specs.Ended.{Ended}
 use Rattle.arena.specs.Live.{Live}
 use Rattle.arena.specs.LiveLaws.{capacity_room}
-use Rattle.arena.specs.declared.Step.{Step}
+use Rattle.arena.specs.Step.{Step}
 use Rattle.format.specs.Limits.{node_words, capacity}
 use Rattle.format.specs.Nodes.{header_of, payload_of}
 use Rattle.format.specs.declared.Node.{Node}
