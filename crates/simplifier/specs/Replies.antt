@@ -1,5 +1,5 @@
 -- An answer as the struct that is handed out: 01's number, place and values of it. Assumes nothing: these are definitions.
-use Rattle.std.specs.Prelude.{ℕ}
+use Rattle.std.specs.Prelude.{List, ℕ, ◌++◌, codes, decimal}
 use Rattle.rules.specs.Call.{simplified_number, simplified_place, simplified_root, simplified_count}
 use Rattle.rules.specs.declared.Simplified.{Simplified}
 use Rattle.simplifier.specs.declared.exports.CheckReply.{CheckReply}
@@ -19,3 +19,7 @@ simplify_reply a count =
 
 abbrev pub evaluate_reply : Evaluated → EvaluateReply
 evaluate_reply a = record { number = evaluated_number a; place = evaluated_place a; value = evaluated_value a }
+
+-- a simplify's struct as it is printed: its numbers in decimals with a space between
+abbrev pub simplify_text : SimplifyReply → List ℕ
+simplify_text a = decimal a.number ++ (codes " " ++ (decimal a.place ++ (codes " " ++ (decimal a.root ++ (codes " " ++ decimal a.count)))))
