@@ -1,4 +1,4 @@
--- The line that the program prints: the reply's four decimals, with a space between, and the line's end. Assumes nothing: this is a definition.
+-- The line that the program prints: the text of the reply, and the end of the line. Assumes nothing: this is a definition.
 use Rattle.std.specs.Prelude.{List, ℕ, ◌++◌, codes}
 use Rattle.simplifier.specs.Replies.{simplify_text}
 use Rattle.simplifier.specs.declared.exports.SimplifyReply.{SimplifyReply}
