@@ -1,5 +1,5 @@
 -- The program's file and the answer to it (01, "The program"). Assumes nothing: these are definitions.
-use Rattle.std.specs.Prelude.{cond, List, [], ◌∷◌, ◌++◌, ℕ, zero, suc, ◌+◌, ◌*◌, ◌/◌, ◌%◌, ◌^◌, leb, eqb, length, drop, replicate}
+use Rattle.std.specs.Prelude.{cond, Option, None, Some, List, [], ◌∷◌, ◌++◌, ℕ, zero, suc, ◌+◌, ◌*◌, ◌/◌, ◌%◌, ◌^◌, leb, eqb, length, drop, replicate}
 use Rattle.format.specs.Limits.{node_words, capacity}
 use Rattle.rules.specs.Call.{simplified_answer, words_after}
 use Rattle.simplifier.specs.Replies.{simplify_reply}
@@ -31,11 +31,11 @@ abbrev pub root_of : List ℕ → ℕ
 root_of bytes = number_at bytes 0 head_bytes % 2 ^ 32
 
 -- a file is good if it has as many bytes as its count of nodes asks for, and the arena holds as many
-unfoldable pub head_of : List ℕ → (most : ℕ) → Head
+unfoldable pub head_of : List ℕ → (most : ℕ) → Option Head
 head_of bytes most =
     cond (leb (count_of bytes) most)
-    (cond (eqb (length bytes) (head_bytes + node_bytes * count_of bytes)) (Head.Nodes (count_of bytes) (root_of bytes)) Head.Bad)
-    Head.Bad
+    (cond (eqb (length bytes) (head_bytes + node_bytes * count_of bytes)) (Some (record { count = count_of bytes; root = root_of bytes })) None)
+    None
 
 -- THE WORDS
 
@@ -54,13 +54,13 @@ abbrev pub bad_reply : SimplifyReply
 bad_reply = record { number = 11; place = 0; root = 0; count = 0 }
 
 -- 11 for a bad file, else what simplify answers on the words
-abbrev pub reply_to : Head → List ℕ → List ℕ → SimplifyReply
-reply_to Head.Bad bytes words = bad_reply
-reply_to (Head.Nodes count root) bytes words = simplify_reply (simplified_answer (laid bytes count words) count root) count
+abbrev pub reply_to : Option Head → List ℕ → List ℕ → SimplifyReply
+reply_to None bytes words = bad_reply
+reply_to (Some head) bytes words = simplify_reply (simplified_answer (laid bytes head.count words) head.count head.root) head.count
 
-abbrev pub left_by : Head → List ℕ → List ℕ → List ℕ
-left_by Head.Bad bytes words = words
-left_by (Head.Nodes count root) bytes words = words_after (laid bytes count words) count root
+abbrev pub left_by : Option Head → List ℕ → List ℕ → List ℕ
+left_by None bytes words = words
+left_by (Some head) bytes words = words_after (laid bytes head.count words) head.count head.root
 
 -- the answer in lent words, and what it leaves in them
 abbrev pub file_reply : List ℕ → List ℕ → SimplifyReply

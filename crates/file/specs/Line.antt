@@ -1,7 +1,7 @@
--- The line that the program prints: number, place, root and count, in decimals with a space between. Assumes nothing: this is a definition.
-use Rattle.std.specs.Prelude.{List, ℕ, ◌++◌, codes, decimal}
+-- The line that the program prints: the text of the reply, and the end of the line. Assumes nothing: this is a definition.
+use Rattle.std.specs.Prelude.{List, ℕ, ◌++◌, codes}
+use Rattle.simplifier.specs.Replies.{simplify_text}
 use Rattle.simplifier.specs.declared.exports.SimplifyReply.{SimplifyReply}
 
 abbrev pub line_of : SimplifyReply → List ℕ
-line_of reply =
-    decimal reply.number ++ (codes " " ++ (decimal reply.place ++ (codes " " ++ (decimal reply.root ++ (codes " " ++ (decimal reply.count ++ codes "\n"))))))
+line_of reply = simplify_text reply ++ codes "\n"

@@ -8,14 +8,13 @@ use Rattle.std.proofs.lemmas.List.{length-replicate, append-nil}
 use Rattle.format.specs.Limits.{capacity}
 use Rattle.file.specs.File.{program_words, head_bytes, node_bytes, head_of, file_reply, program_reply}
 use Rattle.file.specs.FileLaws.{bad_answer}
-use Rattle.file.specs.declared.Head.{Head}
 
 -- how many bytes the longest good file has, for an arena of `len` words
 abbrev pub longest : ℕ → ℕ
 longest len = head_bytes + node_bytes * capacity len
 
 -- a longer file is bad
-pub long_file : (bytes : List ℕ) (len : ℕ) → longest len < length bytes → head_of bytes (capacity len) ≡ Head.Bad
+pub long_file : (bytes : List ℕ) (len : ℕ) → longest len < length bytes → head_of bytes (capacity len) ≡ None
 unfolding head_of
 long_file bytes len h = grind (arith, nat_tests)
 

@@ -11,11 +11,5 @@ use std::io::Write;
 pub fn print<W: Write>(to: &mut W, reply: SimplifyReply) -> io::Result<()>
     ensures { OnOk result (Appends (W.contents to.old) (W.contents to.new) (line_of reply)) }
 {
-    let SimplifyReply {
-        number,
-        place,
-        root,
-        count,
-    } = reply;
-    writeln!(to, "{number} {place} {root} {count}")
+    writeln!(to, "{reply}")
 }

@@ -1,48 +1,36 @@
 // Runs the program's answer on every recorded file, and prints a line for each.
 #![tactic(auto)]
 
-ghost use Rattle.std.specs.Prelude.{◌≡◌};
-ghost use Rattle.file.specs.File.{program_reply};
-
-use file::PROGRAM_WORDS;
 use file::input::{BUFFER_BYTES, read_full};
-use simplifier::exports::SimplifyReply;
 use std::fs::File;
 use std::io;
 use std::io::{Read, Write};
 
-// How many bytes a record's length takes.
-const LENGTH_BYTES: usize = 2;
-
-fn answer(bytes: &[u8]) -> SimplifyReply
-    ensures { result ≡ program_reply bytes.now }
-{
-    let mut words = [0u64; PROGRAM_WORDS];
-    file::answer(bytes, &mut words)
-}
-
-// Reads a record, two bytes of length and then a file of that length, and writes the line that answers it. False where there is no whole record.
-fn replay_one(records: &mut impl Read, buffer: &mut [u8], to: &mut impl Write) -> io::Result<bool> {
-    let mut length = [0u8; LENGTH_BYTES];
-    if read_full(records, &mut length)? < LENGTH_BYTES {
-        return Ok(false);
+// Reads a record, two bytes of length and then a file of that length, into the buffer, and gives the file.
+// None where there is no whole record.
+fn read_record<'a>(records: &mut impl Read, buffer: &'a mut [u8]) -> io::Result<Option<&'a [u8]>> {
+    let mut length = [0u8; 2];
+    if read_full(records, &mut length)? < length.len() {
+        return Ok(None);
     }
-    let size = file::bytes::two_at(&length, 0) as usize;
+    let size = usize::from(u16::from_be_bytes(length));
     if buffer.len() < size {
-        return Ok(false);
+        return Ok(None);
     }
-    if read_full(records, &mut buffer[..size])? < size {
-        return Ok(false);
+    let bytes = &mut buffer[..size];
+    if read_full(records, bytes)? < size {
+        return Ok(None);
     }
-    file::line::print(to, answer(&buffer[..size]))?;
-    Ok(true)
+    Ok(Some(bytes))
 }
 
-// The loop counts its turns down from a number that no run uses up, since nothing says that a file ends.
+// The loop has a bound that no run comes to, since nothing says that a file ends.
 fn replay_all(records: &mut impl Read, buffer: &mut [u8], to: &mut impl Write) -> io::Result<()> {
-    let mut turns = u64::MAX;
-    while turns > 0 && replay_one(records, buffer, to)? {
-        turns -= 1;
+    for _ in 0..u64::MAX {
+        let Some(bytes) = read_record(records, buffer)? else {
+            break;
+        };
+        file::line::print(to, file::program_answer(bytes))?;
     }
     Ok(())
 }

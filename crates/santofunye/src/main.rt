@@ -1,31 +1,24 @@
 // Simplifies the file on standard input, and prints number, place, root and count.
 #![tactic(auto)]
 
-ghost use Rattle.std.specs.Prelude.{◌≡◌, IfSome, OnOk};
+ghost use Rattle.std.specs.Prelude.{IfSome, OnOk};
 ghost use Rattle.std.specs.Io.KnownBytes.{Appends};
 ghost use Rattle.file.specs.File.{program_reply};
 ghost use Rattle.file.specs.Line.{line_of};
 
-use file::PROGRAM_WORDS;
 use file::input::{BUFFER_BYTES, read_full};
-use simplifier::exports::SimplifyReply;
 use std::io;
 use std::io::{Read, Write};
 
-fn answer(bytes: &[u8]) -> SimplifyReply
-    ensures { result ≡ program_reply bytes.now }
-{
-    let mut words = [0u64; PROGRAM_WORDS];
-    file::answer(bytes, &mut words)
-}
-
-// Reads a file and writes the line that answers it. The buffer is longer than the longest good file, so that a longer one is seen to be bad.
+// Reads a file and writes the line that answers it.
+// The buffer is longer than the longest good file, so that a longer one is seen to be bad.
 fn answer_file<R: Read, W: Write>(from: &mut R, to: &mut W) -> io::Result<()>
-    ensures { OnOk result (IfSome (R.remaining from.old) (λ bytes. Appends (W.contents to.old) (W.contents to.new) (line_of (program_reply bytes)))) }
+    ensures { OnOk result (IfSome (R.remaining from.old) (λ bytes.
+        Appends (W.contents to.old) (W.contents to.new) (line_of (program_reply bytes)))) }
 {
     let mut buffer = [0u8; BUFFER_BYTES];
     let n = read_full(from, &mut buffer)?;
-    file::line::print(to, answer(&buffer[..n]))
+    file::line::print(to, file::program_answer(&buffer[..n]))
 }
 
 fn main(rt: HostRuntime) -> io::Result<()> {

@@ -1,12 +1,13 @@
 // The calls for Rust, and for C through the crate simplifier_c: numbers, places and values, in structs.
-ghost use Rattle.std.specs.Prelude.{◌≡◌};
+ghost use Rattle.std.specs.Prelude.{◌≡◌, Some};
 ghost use Rattle.tree.specs.Form.{checked};
 ghost use Rattle.tree.specs.Rows.{evaluated};
 ghost use Rattle.rules.specs.Call.{simplified_answer, words_after};
-ghost use Rattle.simplifier.specs.Replies.{check_reply, simplify_reply, evaluate_reply};
+ghost use Rattle.simplifier.specs.Replies.{check_reply, simplify_reply, simplify_text, evaluate_reply};
 
 use crate::calls;
 use rules::{Simplified, SimplifyError};
+use std::fmt;
 use tree::{EvaluateError, Refusal};
 
 #[repr(C)]
@@ -75,6 +76,21 @@ impl SimplifyReply {
                 count,
             },
         }
+    }
+}
+
+// Number, place, root and count, in decimals with a space between.
+impl fmt::Display for SimplifyReply {
+    ghost output = { λ reply. Some (simplify_text reply) };
+
+    fn fmt<W: fmt::Write>(&self, f: &mut fmt::Formatter<W>) -> fmt::Result {
+        let SimplifyReply {
+            number,
+            place,
+            root,
+            count,
+        } = *self;
+        write!(f, "{number} {place} {root} {count}")
     }
 }
 

@@ -1,13 +1,7 @@
 -- The file's words are laid one after the other: the first k are there, and the rest are as they were.
-use Rattle.std.proofs.Common.{◌-◌, ◌≡◌, ◌++◌, ◌≤◌, drop}
+use Rattle.std.proofs.Common.{◌≡◌, ◌++◌, drop}
 use Rattle.file.specs.File.{head_bytes, words_from}
 use Rattle.file.proofs.lay.Given as goal
 
 abbrev pub invariant-loop-k : goal.invariant-loop-k
-invariant-loop-k l = record {
-  within : l.k ≤ l.n;
-  laid : l.words ≡ words_from l.bytes head_bytes l.k ++ drop l.k l.fn.words;
-}
-
-abbrev pub decreases-loop-k : goal.decreases-loop-k
-decreases-loop-k l = l.n - l.k
+invariant-loop-k l = l.words ≡ words_from l.bytes head_bytes l.k ++ drop l.k l.fn.words

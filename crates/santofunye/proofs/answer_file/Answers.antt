@@ -24,4 +24,4 @@ returns g c =
     let size = length-take-le c.in_ok-n.n c.read_full.new.buffer told.within in
     let all = read_reply (g.R.Read.remaining c.args.from.now) (g.R.Read.remaining c.read_full.new.reader) read (length c.read_full.new.buffer) (omega arith)
     told.bytes (λ short. told.end (omega arith)) in
-    line_of_all c.print.result (g.R.Read.remaining c.args.from.now) read c.answer.result _ _ all c.answer.ensures c.print.ensures
+    line_of_all c.print.result (g.R.Read.remaining c.args.from.now) read c.program_answer.result _ _ all c.program_answer.ensures c.print.ensures
