@@ -48,14 +48,6 @@ is_top Shape.Bind = false
 is_top (Shape.Unary op) = false
 is_top (Shape.Binary op) = false
 
-abbrev pub is_const : Shape → Bool
-is_const Shape.Top = false
-is_const Shape.Entry = false
-is_const Shape.Const = true
-is_const Shape.Bind = false
-is_const (Shape.Unary op) = false
-is_const (Shape.Binary op) = false
-
 abbrev pub is_leaf : Shape → Bool
 is_leaf Shape.Top = true
 is_leaf Shape.Entry = true
