@@ -10,7 +10,7 @@ use Rattle.format.specs.KindRules.{leaf_kinds, is_leaf}
 use Rattle.format.proofs.KindRules.{leaf_by_kind}
 use Rattle.format.specs.Kinds.{kind_count, shape_of}
 use Rattle.format.specs.Limits.{node_words, max_nodes, capacity, header_at, payload_at}
-use Rattle.format.specs.Nodes.{node_of, shaped, header_of, payload_of, node_size, node_is_top, node_is_const, node_is_leaf, node_left_child}
+use Rattle.format.specs.Nodes.{node_of, shaped, header_of, payload_of, node_size, node_is_top, node_is_leaf, node_left_child}
 use Rattle.format.proofs.NodesOfWords.{node_of_unknown}
 use Rattle.format.specs.declared.Node.{Node}
 use Rattle.format.specs.declared.Shape.{Shape}
@@ -30,38 +30,21 @@ capacity_few len n h = omega (arith, min-le_right (len / node_words) max_nodes)
 module _ (tree : ℕ → Tree) where
   pub size_of_node : (node : Node) → size (build tree node) ≡ node_size node
   size_of_node Node.Top = refl
-  size_of_node (Node.Entry s sp o) = refl
-  size_of_node (Node.Const s v) = refl
-  size_of_node (Node.Bind s d) = refl
-  size_of_node (Node.Unary op s j) = refl
-  size_of_node (Node.Binary op s j k) = refl
+  size_of_node _ = refl
 
   pub top_of_node : (node : Node) → is_top (build tree node) ≡ node_is_top node
   top_of_node Node.Top = refl
-  top_of_node (Node.Entry s sp o) = refl
-  top_of_node (Node.Const s v) = refl
-  top_of_node (Node.Bind s d) = refl
-  top_of_node (Node.Unary op s j) = refl
-  top_of_node (Node.Binary op s j k) = refl
+  top_of_node _ = refl
 
 -- a leaf's left child is itself, where one is asked for
 left_or : (node : Node) (i : ℕ) → unwrap_or (node_left_child node) i ≡ left_child node i
 left_or Node.Top i = refl
-left_or (Node.Entry s sp o) i = refl
-left_or (Node.Const s v) i = refl
-left_or (Node.Bind s d) i = refl
-left_or (Node.Unary op s j) i = refl
-left_or (Node.Binary op s j k) i = refl
+left_or _ i = refl
 
 -- a node is a leaf if its shape is
-module _ (word payload : ℕ) where
-  leaf_of_shape : (shape : Shape) → node_is_leaf (shaped shape word payload) ≡ is_leaf shape
-  leaf_of_shape Shape.Top = refl
-  leaf_of_shape Shape.Entry = refl
-  leaf_of_shape Shape.Const = refl
-  leaf_of_shape Shape.Bind = refl
-  leaf_of_shape (Shape.Unary op) = refl
-  leaf_of_shape (Shape.Binary op) = refl
+leaf_of_shape : (word payload : ℕ) (shape : Shape) → node_is_leaf (shaped shape word payload) ≡ is_leaf shape
+leaf_of_shape word payload Shape.Top = refl
+leaf_of_shape word payload _ = refl
 
 -- a live arena's kinds are known: an unknown one would read as Top, whose header has kind 0
 pub kind_known : {words : List ℕ} {i : ℕ} → Good words i → kind_of (header_at words i) < kind_count
@@ -128,12 +111,9 @@ module _ {words : List ℕ} {count : ℕ} (l : Live words count) (i : ℕ) (h : 
   below_at node e = rw e at (l.good i h).below
 
   left_below : (node : Node) → Below i node → left_child node i < count
-  left_below Node.Top b = h
-  left_below (Node.Entry s sp o) b = h
-  left_below (Node.Const s v) b = h
-  left_below (Node.Bind s d) b = h
   left_below (Node.Unary op s j) b = omega arith
   left_below (Node.Binary op s j k) b = omega (arith, b.0)
+  left_below _ b = h
 
   -- the left child that was read off the words is the arena's
   pub left_child_at : (left : Option ℕ) → left ≡ node_left_child (node_at words i) →
