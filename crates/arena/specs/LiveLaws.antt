@@ -119,5 +119,5 @@ module _ {words : List ℕ} {count : ℕ} (l : Live words count) (i : ℕ) (h : 
   pub left_child_at : (left : Option ℕ) → left ≡ node_left_child (node_at words i) →
       (unwrap_or left i ≡ left_child (at (nodes_of count words) i) i) × (unwrap_or left i < count)
   left_child_at left e =
-      rw (e, left_or (node_at words i) i)
-      (ap (λ (n : Node). left_child n i) (sym (at-nodes_of count words i h)), left_below (node_at words i) (below_at (node_at words i) refl))
+      let node = node_at words i in
+      rw (e, left_or node i) (ap (λ (n : Node). left_child n i) (sym (at-nodes_of count words i h)), left_below node (below_at node refl))
