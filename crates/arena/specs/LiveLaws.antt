@@ -1,16 +1,16 @@
 -- Laws of a live arena: what a node's kind tells of it, that the nodes are in order, and that each tree is its node over its
 -- children's trees. Assumes nothing.
-use Rattle.std.specs.Prelude.{List, ◌≡◌, refl, ℕ, ◌+◌, ◌*◌, ◌/◌, ◌≤◌, ◌<◌, eqb, ltb, length, get_or, Option, unwrap_or}
+use Rattle.std.specs.Prelude.{List, ◌≡◌, refl, ℕ, ◌+◌, ◌*◌, ◌/◌, ◌≤◌, ◌<◌, ltb, length, get_or, Option, unwrap_or}
 use Rattle.std.proofs.Common.{ap, ap₂, sym, ◌∙◌, arith}
 use Rattle.std.proofs.Math.Decide.{dec_lt}
 use Rattle.std.proofs.Math.Nat.{min-le_left, min-le_right}
 use Rattle.arena.specs.Live.{Live, Good, tree_of}
 use Rattle.format.specs.Header.{kind_of}
-use Rattle.format.specs.KindRules.{number_of, leaf_kinds, is_const, is_leaf}
-use Rattle.format.proofs.KindRules.{const_by_kind, leaf_by_kind}
+use Rattle.format.specs.KindRules.{leaf_kinds, is_leaf}
+use Rattle.format.proofs.KindRules.{leaf_by_kind}
 use Rattle.format.specs.Kinds.{kind_count, shape_of}
 use Rattle.format.specs.Limits.{node_words, max_nodes, capacity, header_at, payload_at}
-use Rattle.format.specs.Nodes.{node_of, shaped, header_of, payload_of, node_size, node_is_top, node_is_const, node_is_leaf, node_left_child}
+use Rattle.format.specs.Nodes.{node_of, shaped, header_of, payload_of, node_size, node_is_top, node_is_leaf, node_left_child}
 use Rattle.format.proofs.NodesOfWords.{node_of_unknown}
 use Rattle.format.specs.declared.Node.{Node}
 use Rattle.format.specs.declared.Shape.{Shape}
@@ -30,53 +30,21 @@ capacity_few len n h = omega (arith, min-le_right (len / node_words) max_nodes)
 module _ (tree : ℕ → Tree) where
   pub size_of_node : (node : Node) → size (build tree node) ≡ node_size node
   size_of_node Node.Top = refl
-  size_of_node (Node.Entry s sp o) = refl
-  size_of_node (Node.Const s v) = refl
-  size_of_node (Node.Bind s d) = refl
-  size_of_node (Node.Unary op s j) = refl
-  size_of_node (Node.Binary op s j k) = refl
+  size_of_node _ = refl
 
   pub top_of_node : (node : Node) → is_top (build tree node) ≡ node_is_top node
   top_of_node Node.Top = refl
-  top_of_node (Node.Entry s sp o) = refl
-  top_of_node (Node.Const s v) = refl
-  top_of_node (Node.Bind s d) = refl
-  top_of_node (Node.Unary op s j) = refl
-  top_of_node (Node.Binary op s j k) = refl
+  top_of_node _ = refl
 
 -- a leaf's left child is itself, where one is asked for
 left_or : (node : Node) (i : ℕ) → unwrap_or (node_left_child node) i ≡ left_child node i
 left_or Node.Top i = refl
-left_or (Node.Entry s sp o) i = refl
-left_or (Node.Const s v) i = refl
-left_or (Node.Bind s d) i = refl
-left_or (Node.Unary op s j) i = refl
-left_or (Node.Binary op s j k) i = refl
+left_or _ i = refl
 
--- a node is a constant, or a leaf, if its shape is
-module _ (word payload : ℕ) where
-  const_of_shape : (shape : Shape) → node_is_const (shaped shape word payload) ≡ is_const shape
-  const_of_shape Shape.Top = refl
-  const_of_shape Shape.Entry = refl
-  const_of_shape Shape.Const = refl
-  const_of_shape Shape.Bind = refl
-  const_of_shape (Shape.Unary op) = refl
-  const_of_shape (Shape.Binary op) = refl
-
-  leaf_of_shape : (shape : Shape) → node_is_leaf (shaped shape word payload) ≡ is_leaf shape
-  leaf_of_shape Shape.Top = refl
-  leaf_of_shape Shape.Entry = refl
-  leaf_of_shape Shape.Const = refl
-  leaf_of_shape Shape.Bind = refl
-  leaf_of_shape (Shape.Unary op) = refl
-  leaf_of_shape (Shape.Binary op) = refl
-
--- a node is a constant if it has Const's kind
-pub const_at : (words : List ℕ) (i : ℕ) → node_is_const (node_at words i) ≡ eqb (kind_of (header_at words i)) (number_of Shape.Const)
-unfolding node_of
-const_at words i =
-    let kind = kind_of (header_at words i) in
-    const_of_shape (header_at words i) (payload_at words i) (shape_of kind) ∙ const_by_kind kind
+-- a node is a leaf if its shape is
+leaf_of_shape : (word payload : ℕ) (shape : Shape) → node_is_leaf (shaped shape word payload) ≡ is_leaf shape
+leaf_of_shape word payload Shape.Top = refl
+leaf_of_shape word payload _ = refl
 
 -- a live arena's kinds are known: an unknown one would read as Top, whose header has kind 0
 pub kind_known : {words : List ℕ} {i : ℕ} → Good words i → kind_of (header_at words i) < kind_count
@@ -143,16 +111,13 @@ module _ {words : List ℕ} {count : ℕ} (l : Live words count) (i : ℕ) (h : 
   below_at node e = rw e at (l.good i h).below
 
   left_below : (node : Node) → Below i node → left_child node i < count
-  left_below Node.Top b = h
-  left_below (Node.Entry s sp o) b = h
-  left_below (Node.Const s v) b = h
-  left_below (Node.Bind s d) b = h
   left_below (Node.Unary op s j) b = omega arith
   left_below (Node.Binary op s j k) b = omega (arith, b.0)
+  left_below _ b = h
 
   -- the left child that was read off the words is the arena's
   pub left_child_at : (left : Option ℕ) → left ≡ node_left_child (node_at words i) →
       (unwrap_or left i ≡ left_child (at (nodes_of count words) i) i) × (unwrap_or left i < count)
   left_child_at left e =
-      rw (e, left_or (node_at words i) i)
-      (ap (λ (n : Node). left_child n i) (sym (at-nodes_of count words i h)), left_below (node_at words i) (below_at (node_at words i) refl))
+      let node = node_at words i in
+      rw (e, left_or node i) (ap (λ (n : Node). left_child n i) (sym (at-nodes_of count words i h)), left_below node (below_at node refl))

@@ -105,5 +105,7 @@ module _ (words : List ℕ) (count : ℕ) (live : Live words count) (node : Node
       same_length = same_length;
       kept = kept;
       past = λ k h. other k (λ e. omega arith) (λ e. omega arith);
-      ran = let e : suc count ≡ count + 1 = omega arith in subst (λ (m : ℕ). Did words after (append node (nodes_of count words)) count m) e did;
+      ran =
+          let e : suc count ≡ count + 1 = omega arith in
+          subst (λ (m : ℕ). Did words after (append node (nodes_of count words)) count m) e did;
     }

@@ -7,12 +7,10 @@ ghost use Rattle.tree.specs.Arena.{node_at, nodes_of};
 ghost use Rattle.arena.specs.Live.{Live};
 ghost use Rattle.arena.specs.LiveProp.{Live-prop};
 
-use format::Node;
+use format::{Node, Shape};
 use rules::Near;
 use words::{MAX_NODES, NODE_WORDS};
 
-// Const's number.
-const KIND_CONST: usize = 2;
 // How many kinds have no children: the first ones, Top, Entry, Const and Bind.
 const LEAF_KINDS: usize = 4;
 
@@ -81,11 +79,13 @@ impl Nodes<'_> {
     }
 
     /// Whether node i is a constant, by its kind alone.
+    #[tactic(auto, unfolding(format::specs::Nodes::node_of))]
     pub fn is_const(self, i: usize) -> bool
         requires { i < self.count }
         ensures { result ≡ node_is_const (node_at self.entry.words.now i) }
     {
-        words::fields::kind_of(self.header(i)) == KIND_CONST
+        let kind = words::fields::kind_of(self.header(i));
+        matches!(words::kinds::shape_of(kind), Shape::Const)
     }
 
     /// Whether node i has no children, by its kind alone.

@@ -1,13 +1,12 @@
 // Whether two trees of an arena are equal, wherever they lie.
 #![tactic(auto)]
 
-ghost use Rattle.std.specs.Prelude.{◌≡◌, ◌+◌, ◌*◌, ◌<◌, length};
-ghost use Rattle.format.specs.Limits.{node_words};
+ghost use Rattle.std.specs.Prelude.{◌≡◌, ◌<◌};
 ghost use Rattle.tree.specs.Tree.{same as same_tree};
-ghost use Rattle.arena.specs.Live.{Live, tree_of};
+ghost use Rattle.arena.specs.Live.{tree_of};
 ghost use Rattle.equal.specs.Alike.{label_of, alike_at};
 
-use arena::{header_at, payload_at};
+use arena::Nodes;
 use format::Node;
 use words::fields;
 
@@ -20,36 +19,29 @@ fn label(word: u64) -> u64
 }
 
 // Whether two nodes agree in all but their children, whose indices may differ between equal trees.
-fn alike(words: &[u64], i: usize, j: usize) -> bool
-    requires { (node_words * i + 1 < length words.now) × (node_words * j + 1 < length words.now) }
-    ensures { result ≡ alike_at words.now i j }
+fn alike(nodes: &Nodes<'_>, i: usize, j: usize) -> bool
+    requires { (i < nodes.now.count) × (j < nodes.now.count) }
+    ensures { result ≡ alike_at nodes.now.words.now i j }
 {
-    if label(header_at(words, i)) == label(header_at(words, j)) {
-        return payload_at(words, i) == payload_at(words, j);
-    }
-    false
+    label(nodes.header(i)) == label(nodes.header(j)) && nodes.payload(i) == nodes.payload(j)
 }
 
-pub fn same(words: &[u64], count: usize, i: usize, j: usize) -> bool
-    requires live { Live words.now count }
-    requires i_lt_count { (i < count) × (j < count) }
-    ensures { result ≡ same_tree (tree_of count words.now i) (tree_of count words.now j) }
+/// Whether the trees under nodes i and j are equal. Nodes come by reference, so that a call in it hands on one address, and the last
+/// one of a node is a jump.
+#[tactic(auto, using(crate::proofs::Laws::same_at))]
+pub fn same(nodes: &Nodes<'_>, i: usize, j: usize) -> bool
+    requires { (i < nodes.now.count) × (j < nodes.now.count) }
+    ensures { let tree = tree_of nodes.now.count nodes.now.words.now in result ≡ same_tree (tree i) (tree j) }
 {
-    if !alike(words, i, j) {
+    if !alike(nodes, i, j) {
         return false;
     }
-    let other = header_at(words, j);
-    match arena::node_at(words, i) {
-        Node::Top => true,
-        Node::Entry(_, _, _) => true,
-        Node::Const(_, _) => true,
-        Node::Bind(_, _) => true,
-        Node::Unary(_, _, left) => same(words, count, left, fields::left_of(other)),
+    let other = nodes.header(j);
+    match nodes.node(i) {
+        Node::Unary(_, _, left) => same(nodes, left, fields::left_of(other)),
         Node::Binary(_, _, left, right) => {
-            if !same(words, count, left, fields::left_of(other)) {
-                return false;
-            }
-            same(words, count, right, fields::right_of(other))
+            same(nodes, left, fields::left_of(other)) && same(nodes, right, fields::right_of(other))
         }
+        _ => true,
     }
 }

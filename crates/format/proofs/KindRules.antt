@@ -1,16 +1,14 @@
 -- What the table of kinds says of a shape: its number, its children and the fields that it uses. Assumes nothing.
 use Rattle.std.specs.Prelude.{◌≡◌, refl, Bool, true, false, ◌&&◌, ℕ, ◌<◌, ◌≤◌, eqb, ltb, length, get_or}
-use Rattle.std.proofs.Common.{ap, ◌∙◌, sym, arith, lit<, eqb-true, ne_eqb}
+use Rattle.std.proofs.Common.{ap, ◌∙◌, sym, arith, lit<, eqb-true}
 use Rattle.std.specs.Bool.{beq}
-use Rattle.std.proofs.Math.Decide.{dec_lt}
 use Rattle.std.proofs.Math.ListN.{get_or-eq_default, get_or-map}
 use Rattle.format.specs.Kinds.{Kind, kinds, kind_count, unknown_kind, line_of, shape_of, row_of, un_number, bin_number}
 use Rattle.format.specs.Table.{at_line}
-use Rattle.format.specs.Truth.{and_left, and_right}
 use Rattle.format.specs.declared.Bin.{Bin}
 use Rattle.format.specs.declared.Shape.{Shape}
 use Rattle.format.specs.declared.Un.{Un}
-use Rattle.format.specs.KindRules.{Ruled, arity_of, is_const, is_leaf, is_top, is_unsized, leaf_kinds, number_of, rows, uses_payload, uses_space}
+use Rattle.format.specs.KindRules.{Ruled, arity_of, is_leaf, is_top, is_unsized, leaf_kinds, number_of, rows, uses_payload, uses_space}
 
 -- the same, as a test of a line
 abbrev ruled : ℕ → Kind → Bool
@@ -29,23 +27,13 @@ same false true e = e
 same false false e = refl
 
 by_test : (kind : ℕ) (line : Kind) → ruled kind line ≡ true → Ruled kind line.shape line.row
-by_test kind line t =
-    let record { shape = shape; row = row } = line in
-    let number = eqb (number_of shape) kind in
-    let arity = eqb row.arity (arity_of shape) in
-    let space = beq row.space (uses_space shape) in
-    let payload = beq row.payload (uses_payload shape) in
-    let unsized = beq (is_unsized row.sizing) (is_top shape) in
-    let after_number = and_right number (arity && (space && (payload && unsized))) t in
-    let after_arity = and_right arity (space && (payload && unsized)) after_number in
-    let after_space = and_right space (payload && unsized) after_arity in
-    record {
-      number_is = eqb-true _ _ (and_left number (arity && (space && (payload && unsized))) t);
-      arity_is = eqb-true _ _ (and_left arity (space && (payload && unsized)) after_number);
-      space_is = same _ _ (and_left space (payload && unsized) after_arity);
-      payload_is = same _ _ (and_left payload unsized after_space);
-      unsized_is = same _ _ (and_right payload unsized after_space);
-    }
+by_test kind line t = record {
+  number_is = grind (arith, eqb-true);
+  arity_is = grind (arith, eqb-true);
+  space_is = grind (arith, same);
+  payload_is = grind (arith, same);
+  unsized_is = grind (arith, same);
+}
 
 pub kinds_counted : length kinds ≡ kind_count
 kinds_counted = refl
@@ -69,36 +57,13 @@ unfolding shape_of
 leaf_by_kind kind h =
     same _ _ (at_line (λ (k : ℕ) (line : Kind). beq (is_leaf line.shape) (ltb k leaf_kinds)) unknown_kind kinds refl kind h)
 
--- a kind is Const's if it has its number, and an unknown one is not
-pub const_by_kind : (kind : ℕ) → is_const (shape_of kind) ≡ eqb kind (number_of Shape.Const)
-unfolding shape_of
-const_by_kind kind = go (dec_lt kind kind_count)
-  where
-    go : Dec (kind < kind_count) → is_const (shape_of kind) ≡ eqb kind (number_of Shape.Const)
-    go (yes h) =
-        same _ _ (at_line (λ (k : ℕ) (line : Kind). beq (is_const line.shape) (eqb k (number_of Shape.Const))) unknown_kind kinds refl kind h)
-    go (no h) = ap is_const (shape_of_unknown kind (omega arith)) ∙ sym (ne_eqb kind (number_of Shape.Const) (omega arith))
-
 -- the line of a shape's number is the shape's
 pub shape_of_number : (shape : Shape) → shape_of (number_of shape) ≡ shape
 unfolding shape_of
 shape_of_number Shape.Top = refl
-shape_of_number Shape.Entry = refl
-shape_of_number Shape.Const = refl
-shape_of_number Shape.Bind = refl
 shape_of_number (Shape.Unary Un.SignExtend) = refl
-shape_of_number (Shape.Unary Un.Int2Comp) = refl
 shape_of_number (Shape.Binary Bin.Add) = refl
-shape_of_number (Shape.Binary Bin.Sub) = refl
-shape_of_number (Shape.Binary Bin.Mul) = refl
-shape_of_number (Shape.Binary Bin.Xor) = refl
-shape_of_number (Shape.Binary Bin.Or) = refl
-shape_of_number (Shape.Binary Bin.IntLeftShift) = refl
-shape_of_number (Shape.Binary Bin.IntRightShift) = refl
-shape_of_number (Shape.Binary Bin.IntSignedRightShift) = refl
-shape_of_number (Shape.Binary Bin.IntCarry) = refl
-shape_of_number (Shape.Binary Bin.IntSCarry) = refl
-shape_of_number (Shape.Binary Bin.IntSBorrow) = refl
+shape_of_number _ = refl
 
 -- so a kind of a shape's number has that shape
 pub shape_by_number : (shape : Shape) {kind : ℕ} → kind ≡ number_of shape → shape_of kind ≡ shape
@@ -116,17 +81,8 @@ same_bin_number op op' e = cc (same_number (Shape.Binary op) (Shape.Binary op') 
 
 pub un_number_known : (op : Un) → un_number op < kind_count
 un_number_known Un.SignExtend = lit< tt
-un_number_known Un.Int2Comp = lit< tt
+un_number_known _ = lit< tt
 
 pub bin_number_known : (op : Bin) → bin_number op < kind_count
 bin_number_known Bin.Add = lit< tt
-bin_number_known Bin.Sub = lit< tt
-bin_number_known Bin.Mul = lit< tt
-bin_number_known Bin.Xor = lit< tt
-bin_number_known Bin.Or = lit< tt
-bin_number_known Bin.IntLeftShift = lit< tt
-bin_number_known Bin.IntRightShift = lit< tt
-bin_number_known Bin.IntSignedRightShift = lit< tt
-bin_number_known Bin.IntCarry = lit< tt
-bin_number_known Bin.IntSCarry = lit< tt
-bin_number_known Bin.IntSBorrow = lit< tt
+bin_number_known _ = lit< tt

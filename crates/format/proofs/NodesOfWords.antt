@@ -81,12 +81,10 @@ module _ (word payload : ℕ) where
   header_of_shape (Shape.Binary op) u = rw (u.number, u.space refl)
 
   payload_of_shape : (shape : Shape) → Spare shape word payload → payload_of (shaped shape word payload) ≡ payload
-  payload_of_shape Shape.Top u = sym (u.payload_zero refl)
   payload_of_shape Shape.Entry u = refl
   payload_of_shape Shape.Const u = refl
   payload_of_shape Shape.Bind u = refl
-  payload_of_shape (Shape.Unary op) u = sym (u.payload_zero refl)
-  payload_of_shape (Shape.Binary op) u = sym (u.payload_zero refl)
+  payload_of_shape _ u = sym (u.payload_zero refl)
 
   spare : Unused word payload → Spare (shape_of (kind_of word)) word payload
   spare u =

@@ -17,61 +17,32 @@ number_of (Shape.Binary op) = bin_number op
 
 -- how many children a shape has
 abbrev pub arity_of : Shape → ℕ
-arity_of Shape.Top = 0
-arity_of Shape.Entry = 0
-arity_of Shape.Const = 0
-arity_of Shape.Bind = 0
 arity_of (Shape.Unary op) = 1
 arity_of (Shape.Binary op) = 2
+arity_of _ = 0
 
 abbrev pub uses_space : Shape → Bool
-uses_space Shape.Top = false
 uses_space Shape.Entry = true
-uses_space Shape.Const = false
-uses_space Shape.Bind = false
-uses_space (Shape.Unary op) = false
-uses_space (Shape.Binary op) = false
+uses_space _ = false
 
 abbrev pub uses_payload : Shape → Bool
-uses_payload Shape.Top = false
 uses_payload Shape.Entry = true
 uses_payload Shape.Const = true
 uses_payload Shape.Bind = true
-uses_payload (Shape.Unary op) = false
-uses_payload (Shape.Binary op) = false
+uses_payload _ = false
 
 abbrev pub is_top : Shape → Bool
 is_top Shape.Top = true
-is_top Shape.Entry = false
-is_top Shape.Const = false
-is_top Shape.Bind = false
-is_top (Shape.Unary op) = false
-is_top (Shape.Binary op) = false
-
-abbrev pub is_const : Shape → Bool
-is_const Shape.Top = false
-is_const Shape.Entry = false
-is_const Shape.Const = true
-is_const Shape.Bind = false
-is_const (Shape.Unary op) = false
-is_const (Shape.Binary op) = false
+is_top _ = false
 
 abbrev pub is_leaf : Shape → Bool
-is_leaf Shape.Top = true
-is_leaf Shape.Entry = true
-is_leaf Shape.Const = true
-is_leaf Shape.Bind = true
 is_leaf (Shape.Unary op) = false
 is_leaf (Shape.Binary op) = false
+is_leaf _ = true
 
 abbrev pub is_unsized : Sizing → Bool
 is_unsized Sizing.Unsized = true
-is_unsized Sizing.Input = false
-is_unsized Sizing.Constant = false
-is_unsized Sizing.Same = false
-is_unsized Sizing.Shift = false
-is_unsized Sizing.Extension = false
-is_unsized Sizing.Flag = false
+is_unsized _ = false
 
 -- a kind's number, children and uses are those of its shape, and only Top has no size
 pub record Ruled (kind : ℕ) (shape : Shape) (row : Row) : Type 0 where

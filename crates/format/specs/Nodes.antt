@@ -26,12 +26,10 @@ header_of (Node.Unary op size left) = header (un_number op) size left 0 0
 header_of (Node.Binary op size left right) = header (bin_number op) size left right 0
 
 abbrev pub payload_of : Node → ℕ
-payload_of Node.Top = 0
 payload_of (Node.Entry size space offset) = offset
 payload_of (Node.Const size value) = value
 payload_of (Node.Bind size id) = id
-payload_of (Node.Unary op size left) = 0
-payload_of (Node.Binary op size left right) = 0
+payload_of _ = 0
 
 -- a node's fields fit the header
 abbrev pub Narrow : Node → Type 0
@@ -53,33 +51,19 @@ node_size (Node.Binary op size left right) = size
 
 abbrev pub node_is_top : Node → Bool
 node_is_top Node.Top = true
-node_is_top (Node.Entry size space offset) = false
-node_is_top (Node.Const size value) = false
-node_is_top (Node.Bind size id) = false
-node_is_top (Node.Unary op size left) = false
-node_is_top (Node.Binary op size left right) = false
+node_is_top _ = false
 
 abbrev pub node_is_const : Node → Bool
-node_is_const Node.Top = false
-node_is_const (Node.Entry size space offset) = false
 node_is_const (Node.Const size value) = true
-node_is_const (Node.Bind size id) = false
-node_is_const (Node.Unary op size left) = false
-node_is_const (Node.Binary op size left right) = false
+node_is_const _ = false
 
 abbrev pub node_is_leaf : Node → Bool
-node_is_leaf Node.Top = true
-node_is_leaf (Node.Entry size space offset) = true
-node_is_leaf (Node.Const size value) = true
-node_is_leaf (Node.Bind size id) = true
 node_is_leaf (Node.Unary op size left) = false
 node_is_leaf (Node.Binary op size left right) = false
+node_is_leaf _ = true
 
 -- the one child, or the first of two
 abbrev pub node_left_child : Node → Option ℕ
-node_left_child Node.Top = None
-node_left_child (Node.Entry size space offset) = None
-node_left_child (Node.Const size value) = None
-node_left_child (Node.Bind size id) = None
 node_left_child (Node.Unary op size left) = Some left
 node_left_child (Node.Binary op size left right) = Some left
+node_left_child _ = None

@@ -2,17 +2,18 @@
 #![tactic(auto)]
 
 ghost use Rattle.std.specs.Prelude.{◌≡◌};
+ghost use Rattle.format.specs.Kinds.{un_number, bin_number};
 ghost use Rattle.format.specs.Nodes.{node_size, node_is_top, node_left_child};
 
-// The operators of one child.
-#[derive(Clone, Copy)]
+/// The operators of one child.
+#[derive(Clone, Copy, Debug, PartialEq, Eq)]
 pub enum Un {
     SignExtend,
     Int2Comp,
 }
 
-// The operators of two children.
-#[derive(Clone, Copy)]
+/// The operators of two children.
+#[derive(Clone, Copy, Debug, PartialEq, Eq)]
 pub enum Bin {
     Add,
     Sub,
@@ -27,8 +28,8 @@ pub enum Bin {
     IntSBorrow,
 }
 
-// What a kind is, apart from its number.
-#[derive(Clone, Copy)]
+/// What a kind is, apart from its number.
+#[derive(Clone, Copy, Debug, PartialEq, Eq)]
 pub enum Shape {
     Top,
     Entry,
@@ -38,8 +39,8 @@ pub enum Shape {
     Binary(Bin),
 }
 
-// The rule for a node's size and its children's.
-#[derive(Clone, Copy)]
+/// The rule for a node's size and its children's.
+#[derive(Clone, Copy, Debug, PartialEq, Eq)]
 pub enum Sizing {
     Unsized,
     Input,
@@ -50,8 +51,8 @@ pub enum Sizing {
     Flag,
 }
 
-// A kind's line of the table: how many children it has, whether it uses the space and the payload, and its rule of sizes.
-#[derive(Clone, Copy)]
+/// A kind's line of the table: how many children it has, whether it uses the space and the payload, and its rule of sizes.
+#[derive(Clone, Copy, Debug, PartialEq, Eq)]
 pub struct Row {
     pub arity: u8,
     pub space: bool,
@@ -59,8 +60,8 @@ pub struct Row {
     pub sizing: Sizing,
 }
 
-// A node with its fields: sizes in bytes, and children as indices.
-#[derive(Clone, Copy)]
+/// A node with its fields: sizes in bytes, and children as indices.
+#[derive(Clone, Copy, Debug, PartialEq, Eq)]
 pub enum Node {
     Top,
     Entry(u64, u64, u64),
@@ -68,6 +69,39 @@ pub enum Node {
     Bind(u64, u64),
     Unary(Un, u64, usize),
     Binary(Bin, u64, usize, usize),
+}
+
+/// An operator's number, which is its kind's.
+impl From<Un> for u64 {
+    ghost from_gives = { λ op n. n ≡ un_number op };
+
+    fn from(op: Un) -> u64 {
+        match op {
+            Un::SignExtend => 12,
+            Un::Int2Comp => 16,
+        }
+    }
+}
+
+/// An operator's number, which is its kind's.
+impl From<Bin> for u64 {
+    ghost from_gives = { λ op n. n ≡ bin_number op };
+
+    fn from(op: Bin) -> u64 {
+        match op {
+            Bin::Add => 4,
+            Bin::Sub => 5,
+            Bin::Mul => 6,
+            Bin::Xor => 7,
+            Bin::Or => 8,
+            Bin::IntLeftShift => 9,
+            Bin::IntRightShift => 10,
+            Bin::IntSignedRightShift => 11,
+            Bin::IntCarry => 13,
+            Bin::IntSCarry => 14,
+            Bin::IntSBorrow => 15,
+        }
+    }
 }
 
 impl Node {

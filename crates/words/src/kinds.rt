@@ -1,11 +1,12 @@
 // The kinds by number: the one table that drives the check of form and sizes, and the shapes that nodes are read by.
 ghost use Rattle.std.specs.Prelude.{◌≡◌, ◌<◌, ◌≤◌};
 ghost use Rattle.format.specs.KindRules.{rows};
-ghost use Rattle.format.specs.Kinds.{shape_of, un_number, bin_number};
+ghost use Rattle.format.specs.Kinds.{shape_of};
 
 use crate::KIND_COUNT;
 use format::{Bin, Row, Shape, Sizing, Un};
 
+// No child, and no field in use: what other rows differ from.
 const TOP: Row = Row {
     arity: 0,
     space: false,
@@ -14,60 +15,49 @@ const TOP: Row = Row {
 };
 
 const ENTRY: Row = Row {
-    arity: 0,
     space: true,
     payload: true,
     sizing: Sizing::Input,
+    ..TOP
 };
 
 const CONST: Row = Row {
-    arity: 0,
-    space: false,
     payload: true,
     sizing: Sizing::Constant,
+    ..TOP
 };
 
 const BIND: Row = Row {
-    arity: 0,
-    space: false,
     payload: true,
     sizing: Sizing::Input,
+    ..TOP
 };
 
 // Rows that kinds of one child, or of two, share.
 const ONE_SAME: Row = Row {
     arity: 1,
-    space: false,
-    payload: false,
     sizing: Sizing::Same,
+    ..TOP
 };
 
 const ONE_EXTENSION: Row = Row {
-    arity: 1,
-    space: false,
-    payload: false,
     sizing: Sizing::Extension,
+    ..ONE_SAME
 };
 
 const TWO_SAME: Row = Row {
     arity: 2,
-    space: false,
-    payload: false,
-    sizing: Sizing::Same,
+    ..ONE_SAME
 };
 
 const TWO_SHIFT: Row = Row {
-    arity: 2,
-    space: false,
-    payload: false,
     sizing: Sizing::Shift,
+    ..TWO_SAME
 };
 
 const TWO_FLAG: Row = Row {
-    arity: 2,
-    space: false,
-    payload: false,
     sizing: Sizing::Flag,
+    ..TWO_SAME
 };
 
 // A line for each kind, from number 0.
@@ -91,7 +81,7 @@ const KINDS: [Row; KIND_COUNT] = [
     ONE_SAME, // Int2Comp
 ];
 
-// The whole table: one copy of it serves all the nodes of a scan.
+/// The whole table: one copy of it serves all the nodes of a scan.
 pub fn table() -> [Row; KIND_COUNT]
     ensures { result ≡ rows }
 {
@@ -119,7 +109,7 @@ fn bin_of(kind: usize) -> Bin
     }
 }
 
-// A number that is no kind's has Top's shape. The operators of two children are read off a table, with no jump for each of them.
+/// A number that is no kind's has Top's shape. The operators of two children are read off a table, with no jump for each of them.
 #[tactic(auto, unfolding(format::specs::Kinds::shape_of))]
 pub fn shape_of(kind: usize) -> Shape
     ensures { result ≡ shape_of kind }
@@ -131,38 +121,7 @@ pub fn shape_of(kind: usize) -> Shape
         3 => Shape::Bind,
         12 => Shape::Unary(Un::SignExtend),
         16 => Shape::Unary(Un::Int2Comp),
-        _ => {
-            if kind < 16 {
-                return Shape::Binary(bin_of(kind));
-            }
-            Shape::Top
-        }
-    }
-}
-
-pub fn un_number(op: Un) -> u64
-    ensures { result ≡ un_number op }
-{
-    match op {
-        Un::SignExtend => 12,
-        Un::Int2Comp => 16,
-    }
-}
-
-pub fn bin_number(op: Bin) -> u64
-    ensures { result ≡ bin_number op }
-{
-    match op {
-        Bin::Add => 4,
-        Bin::Sub => 5,
-        Bin::Mul => 6,
-        Bin::Xor => 7,
-        Bin::Or => 8,
-        Bin::IntLeftShift => 9,
-        Bin::IntRightShift => 10,
-        Bin::IntSignedRightShift => 11,
-        Bin::IntCarry => 13,
-        Bin::IntSCarry => 14,
-        Bin::IntSBorrow => 15,
+        4..=15 => Shape::Binary(bin_of(kind)),
+        _ => Shape::Top,
     }
 }

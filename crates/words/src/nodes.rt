@@ -21,7 +21,7 @@ fn shaped_node(shape: Shape, word: u64, payload: u64) -> Node
     }
 }
 
-// The node that two words stand for. A number that is no kind's reads as Top; the check refuses it.
+/// The node that two words stand for. A number that is no kind's reads as Top; the check refuses it.
 #[tactic(auto, unfolding(format::specs::Nodes::node_of))]
 pub fn node_of(word: u64, payload: u64) -> Node
     ensures { result ≡ node_of word payload }
@@ -30,6 +30,7 @@ pub fn node_of(word: u64, payload: u64) -> Node
     shaped_node(shape, word, payload)
 }
 
+/// A node's first word.
 pub fn header_of(node: Node) -> u64
     requires { Narrow node }
     ensures { result ≡ header_of node }
@@ -39,22 +40,19 @@ pub fn header_of(node: Node) -> u64
         Node::Entry(size, space, _) => fields::pack(1, size, 0, 0, space),
         Node::Const(size, _) => fields::pack(2, size, 0, 0, 0),
         Node::Bind(size, _) => fields::pack(3, size, 0, 0, 0),
-        Node::Unary(op, size, left) => fields::pack(kinds::un_number(op), size, left as u64, 0, 0),
+        Node::Unary(op, size, left) => fields::pack(u64::from(op), size, left as u64, 0, 0),
         Node::Binary(op, size, left, right) => {
-            fields::pack(kinds::bin_number(op), size, left as u64, right as u64, 0)
+            fields::pack(u64::from(op), size, left as u64, right as u64, 0)
         }
     }
 }
 
+/// A node's second word.
 pub fn payload_of(node: Node) -> u64
     ensures { result ≡ payload_of node }
 {
     match node {
-        Node::Top => 0,
-        Node::Entry(_, _, offset) => offset,
-        Node::Const(_, value) => value,
-        Node::Bind(_, id) => id,
-        Node::Unary(_, _, _) => 0,
-        Node::Binary(_, _, _, _) => 0,
+        Node::Entry(_, _, payload) | Node::Const(_, payload) | Node::Bind(_, payload) => payload,
+        Node::Top | Node::Unary(..) | Node::Binary(..) => 0,
     }
 }
