@@ -6,6 +6,10 @@ pub record Size (size : ℕ) : Type 0 where
   pub least : 1 ≤ size
   pub most : size ≤ 8
 
+-- a number of `size` bytes, whatever the size
+abbrev pub Fits : (size a : ℕ) → Type 0
+Fits size a = a < 2 ^ (8 * size)
+
 -- a number of `size` bytes
 pub record Operand (size a : ℕ) : Type 0 where
   pub least : 1 ≤ size
