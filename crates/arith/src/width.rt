@@ -6,7 +6,7 @@ ghost use Rattle.arith.specs.Operands.{Size};
 #[derive(Clone, Copy, Debug, PartialEq, Eq)]
 pub struct Width {
     pub bytes: u64,
-    pub ghost known: { Size bytes },
+    ghost known: { Size bytes },
 }
 
 impl Width {

@@ -9,7 +9,7 @@ use arith::ops::{add_at, sub_at};
 use arith::width::Width;
 
 // The sum takes two words at size 8. The high one is 1 exactly if the low one wrapped, below `a`.
-#[tactic(auto, using(crate::proofs::Overflow::carry_wrapped, crate::proofs::Overflow::carry_above, crate::proofs::Overflow::carry_neither))]
+#[tactic(auto, unfolding(manual::specs::Operations::int_carry))]
 pub fn carry_at(width: Width, a: u64, b: u64) -> u64
     requires left { Fits width.bytes a }
     requires right { Fits width.bytes b }
