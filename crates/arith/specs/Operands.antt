@@ -1,4 +1,4 @@
--- What the functions ask of their arguments. Assumes nothing: these are definitions.
+-- Sizes, and numbers of a size: what functions on them ask of their arguments. Assumes nothing: these are definitions.
 use Rattle.std.specs.Prelude.{ℕ, ◌*◌, ◌^◌, ◌<◌, ◌≤◌}
 
 -- a size in bytes that a u64 can hold
