@@ -36,14 +36,15 @@ pub fn neg_at(width: Width, a: u64) -> u64
     width.cut(wrapping_neg(a))
 }
 
-pub fn xor_at(width: Width, a: u64, b: u64) -> u64
-    ensures { result ≡ int_xor (8 * width.bytes) a b }
+// Bit by bit: at 64 bits, and so at every width.
+pub fn xor(a: u64, b: u64) -> u64
+    ensures { result ≡ int_xor 64 a b }
 {
     a ^ b
 }
 
-pub fn or_at(width: Width, a: u64, b: u64) -> u64
-    ensures { result ≡ int_or (8 * width.bytes) a b }
+pub fn or(a: u64, b: u64) -> u64
+    ensures { result ≡ int_or 64 a b }
 {
     a | b
 }
