@@ -4,7 +4,6 @@ ghost use Rattle.std.specs.Prelude.{◌≡◌};
 ghost use Rattle.rules.specs.Rules.{add_beside};
 
 use crate::beside::moved;
-use arith::wrap::wrapping_add;
 use format::Bin;
 use rules::{Beside, View};
 
@@ -17,7 +16,7 @@ pub fn add_beside(e: View, n: u64) -> Beside
     }
     match e {
         // ((e + #a) + #n) -> (e + #(a + n))
-        View::Plus(a) => Beside::RedoInner(Bin::Add, wrapping_add(a, n)),
+        View::Plus(a) => Beside::RedoInner(Bin::Add, a.wrapping_add(n)),
         // ((e - #a) + #n) -> (e - #(a - n)), or (e + #(n - a)) where a - n is negative
         View::Minus(a) => moved(a, n, Bin::Add, Bin::Sub),
         _ => Beside::Stay,

@@ -13,17 +13,15 @@ use crate::sub::sub_beside;
 use crate::xor_shift::xor_shift_beside;
 use format::Bin;
 use rules::{Beside, Equals, View};
-use signed::wrapped_difference;
+use signed::{Difference, wrapped_difference};
 
 // e's left child moved by the difference a - n, wrapped and read as an i64: a negative one goes the other way by its amount.
 pub fn moved(a: u64, n: u64, negative: Bin, otherwise: Bin) -> Beside
     ensures { result ≡ moved_by (int_sub 64 a n) negative otherwise }
 {
-    let difference = wrapped_difference(a, n);
-    if difference.negative {
-        Beside::RedoInner(negative, difference.amount)
-    } else {
-        Beside::RedoInner(otherwise, difference.amount)
+    match wrapped_difference(a, n) {
+        Difference::Negative(amount) => Beside::RedoInner(negative, amount),
+        Difference::NonNegative(amount) => Beside::RedoInner(otherwise, amount),
     }
 }
 

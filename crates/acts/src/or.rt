@@ -4,7 +4,7 @@ ghost use Rattle.std.specs.Prelude.{◌≡◌};
 ghost use Rattle.arith.specs.Operands.{Size};
 ghost use Rattle.rules.specs.Rules.{or_beside};
 
-use arith::width::mask_for_size;
+use arith::width::Width;
 use rules::Beside;
 
 pub fn or_beside(size: u64, n: u64) -> Beside
@@ -16,7 +16,8 @@ pub fn or_beside(size: u64, n: u64) -> Beside
         return Beside::Itself;
     }
     // (e | #ones) -> #ones
-    if n == mask_for_size(size) {
+    let ones = Width { bytes: size }.mask();
+    if n == ones {
         return Beside::Make(n);
     }
     Beside::Stay

@@ -5,7 +5,7 @@ ghost use Rattle.std.specs.Prelude.{◌≡◌};
 ghost use Rattle.rules.specs.Rules.{sub_beside};
 
 use crate::beside::moved;
-use arith::wrap::{wrapping_add, wrapping_neg};
+use arith::wrap::wrapping_neg;
 use format::Bin;
 use rules::{Beside, View};
 use signed::is_negative;
@@ -25,7 +25,7 @@ pub fn sub_beside(e: View, n: u64) -> Beside
         // ((e + #a) - #n) -> (e + #(a - n)), or (e - #(n - a)) where a - n is negative
         View::Plus(a) => moved(a, n, Bin::Sub, Bin::Add),
         // ((e - #a) - #n) -> (e - #(a + n))
-        View::Minus(a) => Beside::RedoInner(Bin::Sub, wrapping_add(a, n)),
+        View::Minus(a) => Beside::RedoInner(Bin::Sub, a.wrapping_add(n)),
         _ => Beside::Stay,
     }
 }

@@ -1,4 +1,3 @@
 -- Laws on plain numbers that the proofs cite.
-mod Masks
 mod Shifts
 mod Product

@@ -1,15 +1,9 @@
 -- A product modulo P * P from the halves of its factors, digits in base P. Assumes nothing.
-use Rattle.std.proofs.Common.{◌≡◌, ℕ, ◌+◌, ◌*◌, ◌/◌, ◌%◌, ◌^◌, ◌<◌, sym, ap, ◌∙◌, lt_of_le_of_lt, le_of_lt, add_assoc, mul_assoc, mul_comm, add-mul, add_comm, mul-le-mul_left, mul-lt-mul_of_pos_right, div-add-mod', mul-add, mul_left_comm, pow_pos, pow-add}
-use mathlib.Core.Path.{subst⁻¹}
+use Rattle.std.proofs.Common.{◌≡◌, ℕ, ◌+◌, ◌*◌, ◌/◌, ◌%◌, ◌^◌, sym, ap, ◌∙◌, add_assoc, mul_assoc, mul_comm, add-mul, add_comm, div-add-mod', mul-add, mul_left_comm}
 use native.Mathlib.Nat.{add-mod-mod, add-mul-mod_self_right, add_left_comm}
 use lib.Bits.{bit_and, and_mask}
 use lib.Pow.{split}
 use Rattle.manual.specs.Operations.{int_add, int_mult}
-
-pub product_fits : (k : ℕ) {a b : ℕ} → a < 2 ^ k → b < 2 ^ k → a * b < 2 ^ (k + k)
-product_fits k {a} {b} ha hb =
-    subst⁻¹ (λ (n : ℕ). a * b < n) (pow-add 2 k k)
-    (lt_of_le_of_lt (mul-le-mul_left a (le_of_lt hb)) (mul-lt-mul_of_pos_right ha (pow_pos k)))
 
 regrouped : (n q r P M : ℕ) → n + (q * M + r) * P ≡ (n + r * P) + (q * P) * M
 regrouped n q r P M = simp (add-mul, mul_assoc, mul_comm, add_assoc, add_comm)

@@ -1,10 +1,14 @@
--- What the functions ask of their arguments. Assumes nothing: these are definitions.
+-- Sizes, and numbers of a size: what functions on them ask of their arguments. Assumes nothing: these are definitions.
 use Rattle.std.specs.Prelude.{ℕ, ◌*◌, ◌^◌, ◌<◌, ◌≤◌}
 
 -- a size in bytes that a u64 can hold
 pub record Size (size : ℕ) : Type 0 where
   pub least : 1 ≤ size
   pub most : size ≤ 8
+
+-- a number of `size` bytes, whatever the size
+abbrev pub Fits : (size a : ℕ) → Type 0
+Fits size a = a < 2 ^ (8 * size)
 
 -- a number of `size` bytes
 pub record Operand (size a : ℕ) : Type 0 where

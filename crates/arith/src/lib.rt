@@ -1,4 +1,4 @@
-// Arithmetic on numbers of `size` bytes: each function is equal to a P-Code operation's definition at 8 * size bits.
+// Arithmetic on numbers of a width: each function is equal to a P-Code operation's definition at the width's bits.
 #![tactic(auto)]
 
 pub mod ops;

@@ -1,68 +1,69 @@
-// The operations that give a number of the operands' size, worked at 64 bits and cut.
-ghost use Rattle.std.specs.Prelude.{◌≡◌, ◌*◌};
+// The operations that give a number of the operands' width, worked at 64 bits and cut.
+ghost use Rattle.std.specs.Prelude.{◌≡◌, ℕ, ◌*◌};
 ghost use Rattle.manual.specs.Operations.{int_add, int_sub, int_mult, int_2comp, int_xor, int_or, int_left, int_right};
-ghost use Rattle.arith.specs.Operands.{Size, Operand, Operands};
+ghost use Rattle.arith.specs.Operands.{Fits};
 
-use crate::width::cut;
-use crate::wrap::{
-    wrapping_add, wrapping_mul, wrapping_neg, wrapping_shl, wrapping_shr, wrapping_sub,
-};
+use crate::width::Width;
+use crate::wrap::{wrapping_mul, wrapping_neg, wrapping_shl, wrapping_shr};
 
-pub fn add_at(size: u64, a: u64, b: u64) -> u64
-    requires { Size size }
-    ensures { result ≡ int_add (8 * size) a b }
+#[tactic(auto, using(manual::specs::Cuts::int_add_cut))]
+pub fn add_at(width: Width, a: u64, b: u64) -> u64
+    ensures { result ≡ int_add (8 * width.bytes) a b }
 {
-    cut(size, wrapping_add(a, b))
+    width.cut(a.wrapping_add(b))
 }
 
-pub fn sub_at(size: u64, a: u64, b: u64) -> u64
-    requires { Operands size a b }
-    ensures { result ≡ int_sub (8 * size) a b }
+#[tactic(auto, using(manual::specs::Cuts::int_sub_cut))]
+pub fn sub_at(width: Width, a: u64, b: u64) -> u64
+    requires { Fits width.bytes b }
+    ensures { result ≡ int_sub (8 * width.bytes) a b }
 {
-    cut(size, wrapping_sub(a, b))
+    width.cut(a.wrapping_sub(b))
 }
 
-pub fn mul_at(size: u64, a: u64, b: u64) -> u64
-    requires { Size size }
-    ensures { result ≡ int_mult (8 * size) a b }
+#[tactic(auto, using(manual::specs::Cuts::int_mult_cut))]
+pub fn mul_at(width: Width, a: u64, b: u64) -> u64
+    ensures { result ≡ int_mult (8 * width.bytes) a b }
 {
-    cut(size, wrapping_mul(a, b))
+    width.cut(wrapping_mul(a, b))
 }
 
-pub fn neg_at(size: u64, a: u64) -> u64
-    requires { Operand size a }
-    ensures { result ≡ int_2comp (8 * size) a }
+#[tactic(auto, using(manual::specs::Cuts::int_2comp_cut))]
+pub fn neg_at(width: Width, a: u64) -> u64
+    requires { Fits width.bytes a }
+    ensures { result ≡ int_2comp (8 * width.bytes) a }
 {
-    cut(size, wrapping_neg(a))
+    width.cut(wrapping_neg(a))
 }
 
-pub fn xor_at(size: u64, a: u64, b: u64) -> u64
-    ensures { result ≡ int_xor (8 * size) a b }
+// Bit by bit, and so alike at every width.
+pub fn xor(a: u64, b: u64) -> u64
+    ensures { (w : ℕ) → result ≡ int_xor w a b }
 {
     a ^ b
 }
 
-pub fn or_at(size: u64, a: u64, b: u64) -> u64
-    ensures { result ≡ int_or (8 * size) a b }
+pub fn or(a: u64, b: u64) -> u64
+    ensures { (w : ℕ) → result ≡ int_or w a b }
 {
     a | b
 }
 
-pub fn left_at(size: u64, a: u64, n: u64) -> u64
-    requires { Size size }
-    ensures { result ≡ int_left (8 * size) a n }
+#[tactic(auto, using(crate::proofs::Shifts::left_within))]
+pub fn left_at(width: Width, a: u64, n: u64) -> u64
+    ensures { result ≡ int_left (8 * width.bytes) a n }
 {
-    if n >= 8 * size {
+    if n >= width.bits() {
         return 0;
     }
-    cut(size, wrapping_shl(a, n))
+    width.cut(wrapping_shl(a, n))
 }
 
-pub fn right_at(size: u64, a: u64, n: u64) -> u64
-    requires { Operand size a }
-    ensures { result ≡ int_right (8 * size) a n }
+pub fn right_at(width: Width, a: u64, n: u64) -> u64
+    requires { Fits width.bytes a }
+    ensures { result ≡ int_right (8 * width.bytes) a n }
 {
-    if n >= 8 * size {
+    if n >= width.bits() {
         return 0;
     }
     wrapping_shr(a, n)

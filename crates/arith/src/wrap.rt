@@ -1,20 +1,6 @@
-// Arithmetic that wraps at 64 bits.
+// Arithmetic that wraps at 64 bits, beside std's `wrapping_add` and `wrapping_sub`.
 ghost use Rattle.std.specs.Prelude.{◌≡◌, ◌%◌};
-ghost use Rattle.manual.specs.Operations.{int_add, int_sub, int_mult, int_2comp, int_left, int_right};
-
-use std::num::{wrapping_add_u64, wrapping_sub_u64};
-
-pub fn wrapping_add(a: u64, b: u64) -> u64
-    ensures { result ≡ int_add 64 a b }
-{
-    wrapping_add_u64(a, b)
-}
-
-pub fn wrapping_sub(a: u64, b: u64) -> u64
-    ensures { result ≡ int_sub 64 a b }
-{
-    wrapping_sub_u64(a, b)
-}
+ghost use Rattle.manual.specs.Operations.{int_mult, int_2comp, int_left, int_right};
 
 pub fn wrapping_neg(a: u64) -> u64
     ensures { result ≡ int_2comp 64 a }
@@ -23,6 +9,7 @@ pub fn wrapping_neg(a: u64) -> u64
 }
 
 // By halves of 32 bits: the product of the high halves lies past the 64.
+#[tactic(auto, using(crate::proofs::Product::by_halves))]
 pub fn wrapping_mul(a: u64, b: u64) -> u64
     ensures { result ≡ int_mult 64 a b }
 {
@@ -30,8 +17,8 @@ pub fn wrapping_mul(a: u64, b: u64) -> u64
     let a_high = a >> 32;
     let b_low = b & 0xffff_ffff;
     let b_high = b >> 32;
-    let middle = wrapping_add(a_high * b_low, a_low * b_high);
-    wrapping_add(a_low * b_low, middle << 32)
+    let middle = (a_high * b_low).wrapping_add(a_low * b_high);
+    (a_low * b_low).wrapping_add(middle << 32)
 }
 
 // As Rust's wrapping shifts, these take the count modulo 64.

@@ -1,5 +1,4 @@
--- What the flags' tricks say: two words of a sum show its carry, and the top bits of operands and result show whether the signed
--- result fits. Assumes nothing.
+-- The top bits of operands and result show whether the signed result fits. Assumes nothing.
 use mathlib.Core.Path.{◌≡◌, refl, sym, ap, ◌∙◌}
 use mathlib.Core.Logic.{◌⊎◌, inl, inr, ⊎_elim}
 use Prim.Native.Nat.{ℕ, zero, suc, ◌+◌, ◌-◌, ◌*◌, ◌/◌, ◌^◌, ◌<◌, ◌≤◌, zero-le}
@@ -8,31 +7,10 @@ use native.Mathlib.Omega.{arith}
 use borrow.Author.Tests.{lt-ltb, le-ltb}
 use lib.Bits.{bit_and, bit_xor, and_shr, xor_shr}
 use lib.IntN.{ℤ, pos, negsuc, sub_ℕ, ◌+ℤ◌, ◌-ℤ◌}
-use lib.Pow.{pow_mono, pow_pos}
 use lib.Signed.{mag}
 use Rattle.manual.specs.Fits.{int_add_fits, int_sub_fits}
 use Rattle.manual.specs.Halves.{below_or, two_halves, top_bit_lower, top_bit_upper, signed_lower, signed_upper}
-use Rattle.manual.specs.Operations.{int_add, int_sub, int_carry, int_scarry, int_sborrow, signed, unfit}
-
--- The carry, from the sum at 64 bits
-
-carry : (w a b : ℕ) → 2 ^ w ≤ a + b → 1 ≡ int_carry w a b
-unfolding int_carry
-carry w a b h = simp (le-ltb (a + b) (2 ^ w) h)
-
-no_carry : (w a b : ℕ) → a + b < 2 ^ w → 0 ≡ int_carry w a b
-unfolding int_carry
-no_carry w a b h = simp (lt-ltb (a + b) (2 ^ w) h)
-
-module _ (w a b : ℕ) (small : w ≤ 64) (fit_a : a < 2 ^ w) (fit_b : b < 2 ^ w) where
-  pub carry_wrapped : int_add 64 a b < a → 1 ≡ int_carry w a b
-  carry_wrapped h = carry w a b (omega (arith, pow_mono small))
-
-  pub carry_above : 2 ^ w - 1 < int_add 64 a b → 1 ≡ int_carry w a b
-  carry_above h = carry w a b (omega arith)
-
-  pub carry_neither : a ≤ int_add 64 a b → int_add 64 a b ≤ 2 ^ w - 1 → 0 ≡ int_carry w a b
-  carry_neither h i = no_carry w a b (omega (arith, pow_mono small, pow_pos w))
+use Rattle.manual.specs.Operations.{int_add, int_sub, int_scarry, int_sborrow, signed, unfit}
 
 -- A number of w bits by its half, with its top bit and how it reads
 

@@ -1,102 +1,75 @@
 // What looks at the sign. An i64 stays inside this crate.
 #![tactic(auto)]
 
-ghost use Rattle.std.specs.Prelude.{◌≡◌, ◌*◌};
-ghost use Rattle.manual.specs.Operations.{int_sub, int_sright, int_sext, signed, negative64, amount64};
-ghost use Rattle.arith.specs.Operands.{Operand, Extension};
-ghost use Rattle.signed.specs.Bits.{bits64};
+ghost use Rattle.std.specs.Prelude.{◌≡◌, ◌*◌, ◌≤◌};
+ghost use Rattle.manual.specs.Operations.{int_sub, int_sright, int_sext, signed, negative64};
+ghost use Rattle.arith.specs.Operands.{Fits};
+ghost use Rattle.signed.specs.Differences.{difference_of};
 
-use arith::width::{cut, mask_for_size, sign_bit};
-use arith::wrap::{wrapping_neg, wrapping_sub};
-
-// Bytes of an i64.
-const I64_SIZE: u64 = 8;
-
-// Rust's `a as i64`: the same 64 bits. The upper half is read by its complement, which a cast takes.
-fn as_i64(a: u64) -> i64
-    ensures { result ≡ signed 64 a }
-{
-    if a < 0x8000_0000_0000_0000 {
-        a as i64
-    } else {
-        !((!a) as i64)
-    }
-}
-
-// Rust's `z as u64`: the same 64 bits.
-fn as_u64(z: i64) -> u64
-    ensures { result ≡ bits64 z }
-{
-    if z >= 0 { z as u64 } else { !((!z) as u64) }
-}
+use arith::width::Width;
+use arith::wrap::wrapping_neg;
 
 // `a` at 64 bits, its sign bit filling the new ones.
-fn sign_extended(size: u64, a: u64) -> u64
-    requires { Operand size a }
-    ensures { result ≡ int_sext (8 * size) 64 a }
+#[tactic(auto, using(crate::proofs::Signs::extended_clear, crate::proofs::Signs::extended_set))]
+fn sign_extended(width: Width, a: u64) -> u64
+    requires { Fits width.bytes a }
+    ensures { result ≡ int_sext (8 * width.bytes) 64 a }
 {
-    if a & sign_bit(size) == 0 {
-        return a;
+    if a & width.sign_bit() == 0 {
+        a
+    } else {
+        a | !width.mask()
     }
-    a | !mask_for_size(size)
 }
 
-fn signed_at(size: u64, a: u64) -> i64
-    requires { Operand size a }
-    ensures { result ≡ signed (8 * size) a }
+#[tactic(auto, using(crate::proofs::Signs::read))]
+fn signed_at(width: Width, a: u64) -> i64
+    requires { Fits width.bytes a }
+    ensures { result ≡ signed (8 * width.bytes) a }
 {
-    as_i64(sign_extended(size, a))
+    sign_extended(width, a).cast_signed()
 }
 
-// Past the width the sign fills every bit: -1, cut, or 0.
-pub fn signed_right_at(size: u64, a: u64, n: u64) -> u64
-    requires { Operand size a }
-    ensures { result ≡ int_sright (8 * size) a n }
+// Past the width the sign fills every bit, and a shift by 63 leaves nothing else.
+#[tactic(auto, using(crate::proofs::Signs::shifted))]
+pub fn signed_right_at(width: Width, a: u64, n: u64) -> u64
+    requires { Fits width.bytes a }
+    ensures { result ≡ int_sright (8 * width.bytes) a n }
 {
-    let value = signed_at(size, a);
-    if n >= 8 * size {
-        if value < 0 {
-            return cut(size, as_u64(-1));
-        }
-        return 0;
-    }
-    cut(size, as_u64(value >> n))
+    let shifted = signed_at(width, a) >> n.min(63);
+    width.cut(shifted.cast_unsigned())
 }
 
-pub fn sign_extend_at(from: u64, to: u64, a: u64) -> u64
-    requires { Extension from to a }
-    ensures { result ≡ int_sext (8 * from) (8 * to) a }
+#[tactic(auto, using(manual::specs::Cuts::int_sext_cut))]
+pub fn sign_extend_at(from: Width, to: Width, a: u64) -> u64
+    requires wider { from.bytes ≤ to.bytes }
+    requires fits { Fits from.bytes a }
+    ensures { result ≡ int_sext (8 * from.bytes) (8 * to.bytes) a }
 {
-    cut(to, sign_extended(from, a))
+    to.cut(sign_extended(from, a))
 }
 
 // Whether a constant is negative as an i64. Its own size plays no part: 0xFF of one byte is 255.
 pub fn is_negative(n: u64) -> bool
     ensures { result ≡ negative64 n }
 {
-    signed_at(I64_SIZE, n) < 0
+    n.cast_signed() < 0
 }
 
-// A difference of constants, wrapped at 64 bits and read as an i64: its sign, and how far it is from 0.
-#[derive(Clone, Copy)]
-pub struct Difference {
-    pub negative: bool,
-    pub amount: u64,
+/// A difference of constants, wrapped at 64 bits and read as an i64: how far it is from 0, and on which side.
+#[derive(Clone, Copy, Debug, PartialEq, Eq)]
+pub enum Difference {
+    Negative(u64),
+    NonNegative(u64),
 }
 
 pub fn wrapped_difference(a: u64, b: u64) -> Difference
-    ensures { (result.negative ≡ negative64 (int_sub 64 a b)) × (result.amount ≡ amount64 (int_sub 64 a b)) }
+    ensures { result ≡ difference_of (int_sub 64 a b) }
 {
-    let difference = as_i64(wrapping_sub(a, b));
-    if difference < 0 {
-        Difference {
-            negative: true,
-            amount: wrapping_neg(as_u64(difference)),
-        }
+    let difference = a.wrapping_sub(b);
+    if is_negative(difference) {
+        Difference::Negative(wrapping_neg(difference))
     } else {
-        Difference {
-            negative: false,
-            amount: as_u64(difference),
-        }
+        Difference::NonNegative(difference)
     }
 }

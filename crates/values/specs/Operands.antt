@@ -4,15 +4,13 @@ use Rattle.std.proofs.Common.{pow_mono, arith}
 use Rattle.arith.specs.Operands.{Operand, Operands, Extension}
 use Rattle.format.specs.declared.Sizing.{Sizing}
 
--- operands of the node's size; a shift's amount may be any number; a flag's operands have the children's size
+-- operands of the node's size; a shift's amount may be any number; a flag's operands have the children's size. No operator of two
+-- children has another rule
 abbrev pub Fitting : Sizing → (size child x y : ℕ) → Type 0
-Fitting Sizing.Unsized size child x y = ⊥
-Fitting Sizing.Input size child x y = ⊥
-Fitting Sizing.Constant size child x y = ⊥
 Fitting Sizing.Same size child x y = Operands size x y
 Fitting Sizing.Shift size child x y = Operand size x
-Fitting Sizing.Extension size child x y = ⊥
 Fitting Sizing.Flag size child x y = Operands child x y
+Fitting _ size child x y = ⊥
 
 -- a number that fits a size fits a larger one
 pub fits_wider : (from to x : ℕ) → Extension from to x → Operand to x

@@ -10,37 +10,40 @@ ghost use Rattle.rules.specs.Run.{make_const};
 ghost use Rattle.values.specs.Operands.{Fitting};
 
 use arith::ops;
+use arith::width::Width;
 use format::{Bin, Node, Un};
 
 // x is a number of `child` bytes.
+#[tactic(auto, using(std::proofs::lemmas::Nat::pow_below))]
 pub fn un_value(op: Un, size: u64, child: u64, x: u64) -> u64
     requires { Extension child size x }
     ensures { result ≡ un_value op size child x }
 {
+    let width = Width { bytes: size };
     match op {
-        Un::SignExtend => signed::sign_extend_at(child, size, x),
-        Un::Int2Comp => ops::neg_at(size, x),
+        Un::SignExtend => signed::sign_extend_at(Width { bytes: child }, width, x),
+        Un::Int2Comp => ops::neg_at(width, x),
     }
 }
 
-// x is a number of `child` bytes.
+// x is a number of `child` bytes. A flag is of its operands, of the children's size.
 #[tactic(auto, unfolding(format::specs::Kinds::row_of))]
 pub fn bin_value(op: Bin, size: u64, child: u64, x: u64, y: u64) -> u64
     requires { Fitting (bin_sizing op) size child x y }
     ensures { result ≡ bin_value op size child x y }
 {
     match op {
-        Bin::Add => ops::add_at(size, x, y),
-        Bin::Sub => ops::sub_at(size, x, y),
-        Bin::Mul => ops::mul_at(size, x, y),
-        Bin::Xor => ops::xor_at(size, x, y),
-        Bin::Or => ops::or_at(size, x, y),
-        Bin::IntLeftShift => ops::left_at(size, x, y),
-        Bin::IntRightShift => ops::right_at(size, x, y),
-        Bin::IntSignedRightShift => signed::signed_right_at(size, x, y),
-        Bin::IntCarry => flags::carry_at(child, x, y),
-        Bin::IntSCarry => flags::scarry_at(child, x, y),
-        Bin::IntSBorrow => flags::sborrow_at(child, x, y),
+        Bin::Add => ops::add_at(Width { bytes: size }, x, y),
+        Bin::Sub => ops::sub_at(Width { bytes: size }, x, y),
+        Bin::Mul => ops::mul_at(Width { bytes: size }, x, y),
+        Bin::Xor => ops::xor(x, y),
+        Bin::Or => ops::or(x, y),
+        Bin::IntLeftShift => ops::left_at(Width { bytes: size }, x, y),
+        Bin::IntRightShift => ops::right_at(Width { bytes: size }, x, y),
+        Bin::IntSignedRightShift => signed::signed_right_at(Width { bytes: size }, x, y),
+        Bin::IntCarry => flags::carry_at(Width { bytes: child }, x, y),
+        Bin::IntSCarry => flags::scarry_at(Width { bytes: child }, x, y),
+        Bin::IntSBorrow => flags::sborrow_at(Width { bytes: child }, x, y),
     }
 }
 
@@ -49,5 +52,5 @@ pub fn make_const(size: u64, v: u64) -> Node
     requires { Size size }
     ensures { result ≡ make_const size v }
 {
-    Node::Const(size, arith::width::cut(size, v))
+    Node::Const(size, Width { bytes: size }.cut(v))
 }

@@ -1,7 +1,0 @@
--- `ops::neg_at` meets its contract. Assumes nothing.
-use Rattle.std.proofs.Common.{◌*◌, arith}
-use Rattle.manual.specs.Cuts.{int_2comp_cut}
-use Rattle.arith.proofs.ops.neg_at.Goals as goal
-
-pub returns : goal.returns
-returns c = let a = c.args in cc (int_2comp_cut (8 * a.size) (omega arith) a.a (omega arith))
