@@ -42,7 +42,7 @@ fn equal_act(nodes: Nodes<'_>, op: Bin, a: usize, b: usize) -> Act
         Equals::Zero => Act::Make(0),
         Equals::Left => Act::Give(Near::Left),
     };
-    if equal::same(nodes, a, b) {
+    if equal::same(&nodes, a, b) {
         act
     } else {
         Act::Keep

@@ -1,5 +1,5 @@
 // The operations that give a number of the operands' width, worked at 64 bits and cut.
-ghost use Rattle.std.specs.Prelude.{◌≡◌, ℕ, ◌*◌};
+ghost use Rattle.std.specs.Prelude.{◌≡◌, ◌*◌};
 ghost use Rattle.manual.specs.Operations.{int_add, int_sub, int_mult, int_2comp, int_xor, int_or, int_left, int_right};
 ghost use Rattle.arith.specs.Operands.{Fits};
 
@@ -37,14 +37,14 @@ pub fn neg_at(width: Width, a: u64) -> u64
 }
 
 // Bit by bit, and so alike at every width.
-pub fn xor(a: u64, b: u64) -> u64
-    ensures { (w : ℕ) → result ≡ int_xor w a b }
+pub fn xor_at(width: Width, a: u64, b: u64) -> u64
+    ensures { result ≡ int_xor (8 * width.bytes) a b }
 {
     a ^ b
 }
 
-pub fn or(a: u64, b: u64) -> u64
-    ensures { (w : ℕ) → result ≡ int_or w a b }
+pub fn or_at(width: Width, a: u64, b: u64) -> u64
+    ensures { result ≡ int_or (8 * width.bytes) a b }
 {
     a | b
 }

@@ -1,5 +1,5 @@
 -- The operands of a well sized node are what its operator's function asks for. Assumes nothing.
-use Rattle.std.specs.Prelude.{false, ◌≡◌, ℕ, ◌*◌, ◌^◌, ◌≤◌, ◌<◌, None, Option, Some}
+use Rattle.std.specs.Prelude.{false, ◌≡◌, ℕ, ◌*◌, ◌^◌, ◌≤◌, ◌<◌, None, Some}
 use Rattle.std.proofs.Common.{arith}
 use Rattle.arith.specs.Operands.{Extension}
 use Rattle.format.specs.Kinds.{row_of}
