@@ -1,3 +1,4 @@
 pub mod Views
 pub mod Operated
 pub mod Decided
+pub mod Moved

@@ -1,16 +1,16 @@
 -- Laws of a live arena: what a node's kind tells of it, that the nodes are in order, and that each tree is its node over its
 -- children's trees. Assumes nothing.
-use Rattle.std.specs.Prelude.{List, ◌≡◌, refl, ℕ, ◌+◌, ◌*◌, ◌/◌, ◌≤◌, ◌<◌, ltb, length, get_or, Option, unwrap_or}
+use Rattle.std.specs.Prelude.{List, ◌≡◌, refl, ℕ, ◌+◌, ◌*◌, ◌/◌, ◌≤◌, ◌<◌, eqb, ltb, length, get_or, Option, unwrap_or}
 use Rattle.std.proofs.Common.{ap, ap₂, sym, ◌∙◌, arith}
 use Rattle.std.proofs.Math.Decide.{dec_lt}
 use Rattle.std.proofs.Math.Nat.{min-le_left, min-le_right}
 use Rattle.arena.specs.Live.{Live, Good, tree_of}
 use Rattle.format.specs.Header.{kind_of}
-use Rattle.format.specs.KindRules.{leaf_kinds, is_leaf}
-use Rattle.format.proofs.KindRules.{leaf_by_kind}
+use Rattle.format.specs.KindRules.{number_of, leaf_kinds, is_const, is_leaf}
+use Rattle.format.proofs.KindRules.{const_by_kind, leaf_by_kind}
 use Rattle.format.specs.Kinds.{kind_count, shape_of}
 use Rattle.format.specs.Limits.{node_words, max_nodes, capacity, header_at, payload_at}
-use Rattle.format.specs.Nodes.{node_of, shaped, header_of, payload_of, node_size, node_is_top, node_is_leaf, node_left_child}
+use Rattle.format.specs.Nodes.{node_of, shaped, header_of, payload_of, node_size, node_is_top, node_is_const, node_is_leaf, node_left_child}
 use Rattle.format.proofs.NodesOfWords.{node_of_unknown}
 use Rattle.format.specs.declared.Node.{Node}
 use Rattle.format.specs.declared.Shape.{Shape}
@@ -41,10 +41,21 @@ left_or : (node : Node) (i : ℕ) → unwrap_or (node_left_child node) i ≡ lef
 left_or Node.Top i = refl
 left_or _ i = refl
 
--- a node is a leaf if its shape is
+-- a node is a constant, or a leaf, if its shape is
+const_of_shape : (word payload : ℕ) (shape : Shape) → node_is_const (shaped shape word payload) ≡ is_const shape
+const_of_shape word payload Shape.Const = refl
+const_of_shape word payload _ = refl
+
 leaf_of_shape : (word payload : ℕ) (shape : Shape) → node_is_leaf (shaped shape word payload) ≡ is_leaf shape
 leaf_of_shape word payload Shape.Top = refl
 leaf_of_shape word payload _ = refl
+
+-- a node is a constant if it has Const's kind
+pub const_at : (words : List ℕ) (i : ℕ) → node_is_const (node_at words i) ≡ eqb (kind_of (header_at words i)) (number_of Shape.Const)
+unfolding node_of
+const_at words i =
+    let kind = kind_of (header_at words i) in
+    const_of_shape (header_at words i) (payload_at words i) (shape_of kind) ∙ const_by_kind kind
 
 -- a live arena's kinds are known: an unknown one would read as Top, whose header has kind 0
 pub kind_known : {words : List ℕ} {i : ℕ} → Good words i → kind_of (header_at words i) < kind_count

@@ -1,14 +1,15 @@
 -- What the table of kinds says of a shape: its number, its children and the fields that it uses. Assumes nothing.
 use Rattle.std.specs.Prelude.{◌≡◌, refl, Bool, true, false, ◌&&◌, ℕ, ◌<◌, ◌≤◌, eqb, ltb, length, get_or}
-use Rattle.std.proofs.Common.{ap, ◌∙◌, sym, arith, lit<, eqb-true}
+use Rattle.std.proofs.Common.{ap, ◌∙◌, sym, arith, lit<, eqb-true, ne_eqb}
 use Rattle.std.specs.Bool.{beq}
+use Rattle.std.proofs.Math.Decide.{dec_lt}
 use Rattle.std.proofs.Math.ListN.{get_or-eq_default, get_or-map}
 use Rattle.format.specs.Kinds.{Kind, kinds, kind_count, unknown_kind, line_of, shape_of, row_of, un_number, bin_number}
 use Rattle.format.specs.Table.{at_line}
 use Rattle.format.specs.declared.Bin.{Bin}
 use Rattle.format.specs.declared.Shape.{Shape}
 use Rattle.format.specs.declared.Un.{Un}
-use Rattle.format.specs.KindRules.{Ruled, arity_of, is_leaf, is_top, is_unsized, leaf_kinds, number_of, rows, uses_payload, uses_space}
+use Rattle.format.specs.KindRules.{Ruled, arity_of, is_const, is_leaf, is_top, is_unsized, leaf_kinds, number_of, rows, uses_payload, uses_space}
 
 -- the same, as a test of a line
 abbrev ruled : ℕ → Kind → Bool
@@ -56,6 +57,16 @@ pub leaf_by_kind : (kind : ℕ) → kind < kind_count → is_leaf (shape_of kind
 unfolding shape_of
 leaf_by_kind kind h =
     same _ _ (at_line (λ (k : ℕ) (line : Kind). beq (is_leaf line.shape) (ltb k leaf_kinds)) unknown_kind kinds refl kind h)
+
+-- a kind is Const's if it has its number, and an unknown one is not
+pub const_by_kind : (kind : ℕ) → is_const (shape_of kind) ≡ eqb kind (number_of Shape.Const)
+unfolding shape_of
+const_by_kind kind = go (dec_lt kind kind_count)
+  where
+    go : Dec (kind < kind_count) → is_const (shape_of kind) ≡ eqb kind (number_of Shape.Const)
+    go (yes h) =
+        same _ _ (at_line (λ (k : ℕ) (line : Kind). beq (is_const line.shape) (eqb k (number_of Shape.Const))) unknown_kind kinds refl kind h)
+    go (no h) = ap is_const (shape_of_unknown kind (omega arith)) ∙ sym (ne_eqb kind (number_of Shape.Const) (omega arith))
 
 -- the line of a shape's number is the shape's
 pub shape_of_number : (shape : Shape) → shape_of (number_of shape) ≡ shape

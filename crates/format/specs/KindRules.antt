@@ -35,6 +35,10 @@ abbrev pub is_top : Shape → Bool
 is_top Shape.Top = true
 is_top _ = false
 
+abbrev pub is_const : Shape → Bool
+is_const Shape.Const = true
+is_const _ = false
+
 abbrev pub is_leaf : Shape → Bool
 is_leaf (Shape.Unary op) = false
 is_leaf (Shape.Binary op) = false
