@@ -1,13 +1,14 @@
 -- The top bits of operands and result show whether the signed result fits. Assumes nothing.
 use mathlib.Core.Path.{◌≡◌, refl, sym, ap, ◌∙◌}
 use mathlib.Core.Logic.{◌⊎◌, inl, inr, ⊎_elim}
-use Prim.Native.Nat.{ℕ, zero, suc, ◌+◌, ◌-◌, ◌*◌, ◌/◌, ◌^◌, ◌<◌, ◌≤◌, zero-le}
+use Prim.Native.Nat.{ℕ, suc, ◌+◌, ◌-◌, ◌*◌, ◌/◌, ◌^◌, ◌<◌, ◌≤◌}
 use native.Mathlib.Nat.{mod-eq_of_lt, mod-eq-sub-mod}
 use native.Mathlib.Omega.{arith}
 use borrow.Author.Tests.{lt-ltb, le-ltb}
 use lib.Bits.{bit_and, bit_xor, and_shr, xor_shr}
 use lib.IntN.{ℤ, pos, negsuc, sub_ℕ, ◌+ℤ◌, ◌-ℤ◌}
 use lib.Signed.{mag}
+use Rattle.std.proofs.lemmas.Int.{ints}
 use Rattle.manual.specs.Fits.{int_add_fits, int_sub_fits}
 use Rattle.manual.specs.Halves.{below_or, two_halves, top_bit_lower, top_bit_upper, signed_lower, signed_upper}
 use Rattle.manual.specs.Operations.{int_add, int_sub, int_scarry, int_sborrow, signed, unfit}
@@ -51,17 +52,7 @@ overflows w z h = simp (le-ltb (mag z) (2 ^ (w - 1)) h)
 
 -- a number less one of the same sign
 less_fits : (w a b : ℕ) → a < 2 ^ (w - 1) + b → b ≤ 2 ^ (w - 1) → unfit w (sub_ℕ a b) ≡ 0
-less_fits w a b ha hb =
-    fits w (sub_ℕ a b)
-    (⊎_elim (λ h. simp (lt-ltb a b h) (omega arith)) (λ h. simp (le-ltb a b h) (omega arith)) (below_or a b))
-
-pos_minus_pos : (a b : ℕ) → pos a -ℤ pos b ≡ sub_ℕ a b
-pos_minus_pos a zero = simp (le-ltb a 0 zero-le) (ap pos (omega arith))
-pos_minus_pos a (suc b) = refl
-
-neg_minus_pos : (k b : ℕ) → negsuc k -ℤ pos b ≡ negsuc (k + b)
-neg_minus_pos k zero = simp (lt-ltb 0 (suc k) (omega arith)) (ap negsuc (omega arith))
-neg_minus_pos k (suc b) = ap negsuc (omega arith)
+less_fits w a b ha hb = fits w (sub_ℕ a b) (grind arith)
 
 -- The flags, by the halves of the operands and of the result s
 
@@ -114,7 +105,7 @@ module _ (w a b s : ℕ) (halves : 2 ^ w ≡ 2 ^ (w - 1) * 2) (fit_a : a < 2 ^ w
       s ≡ int_sub w a b → Half w a → Half w b → Half w s → bit_and (bit_xor a b) (bit_xor a s) / 2 ^ (w - 1) ≡ int_sborrow w a b
   difference e (inl p) (inl q) r =
       ⊎_elim (λ t. difference_bit p.bit q.bit t.bit) (λ t. difference_bit p.bit q.bit t.bit) r
-      ∙ difference_flag p.reads q.reads (pos_minus_pos a b) (less_fits w a b (omega arith) (omega arith))
+      ∙ difference_flag p.reads q.reads (grind (arith, ints)) (less_fits w a b (omega arith) (omega arith))
   difference e (inr p) (inr q) r =
       ⊎_elim (λ t. difference_bit p.bit q.bit t.bit) (λ t. difference_bit p.bit q.bit t.bit) r
       ∙ difference_flag p.reads q.reads refl
@@ -130,12 +121,12 @@ module _ (w a b s : ℕ) (halves : 2 ^ w ≡ 2 ^ (w - 1) * 2) (fit_a : a < 2 ^ w
   difference e (inr p) (inl q) (inl r) =
       let m : s ≡ a + (2 ^ w - b) - 2 ^ w = e ∙ mod-eq-sub-mod (omega arith) ∙ mod-eq_of_lt (omega arith) in
       difference_bit p.bit q.bit r.bit
-      ∙ difference_flag p.reads q.reads (neg_minus_pos (2 ^ w - suc a) b)
+      ∙ difference_flag p.reads q.reads (omega (arith, ints))
       (overflows w (negsuc ((2 ^ w - suc a) + b)) (omega arith))
   difference e (inr p) (inl q) (inr r) =
       let m : s ≡ a + (2 ^ w - b) - 2 ^ w = e ∙ mod-eq-sub-mod (omega arith) ∙ mod-eq_of_lt (omega arith) in
       difference_bit p.bit q.bit r.bit
-      ∙ difference_flag p.reads q.reads (neg_minus_pos (2 ^ w - suc a) b)
+      ∙ difference_flag p.reads q.reads (omega (arith, ints))
       (fits w (negsuc ((2 ^ w - suc a) + b)) (omega arith))
 
 module _ (w a b : ℕ) (some : 1 ≤ w) (fit_a : a < 2 ^ w) (fit_b : b < 2 ^ w) (s : ℕ) where

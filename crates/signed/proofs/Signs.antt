@@ -1,18 +1,16 @@
 -- Numbers of w bits read as signed, through the machine's i64. Assumes nothing.
-use mathlib.Core.Path.{◌≡◌, refl, sym, ap, ◌∙◌}
-use mathlib.Core.Bool.{Bool, true, false, cond}
+use mathlib.Core.Path.{◌≡◌, sym, ap, ◌∙◌}
 use mathlib.Core.Logic.{⊎_elim}
 use Prim.Native.Nat.{ℕ, suc, ◌+◌, ◌-◌, ◌*◌, ◌/◌, ◌%◌, ◌^◌, ◌<◌, ◌≤◌, min}
 use native.Mathlib.Nat.{mod-eq_of_lt, lt_of_le_of_lt, div-eq_of_lt}
 use native.Mathlib.Omega.{arith}
 use lib.Bits.{bit_and, bit_or, or_shifted_r}
-use lib.Dec.{ltb}
-use lib.IntN.{ℤ, pos, negsuc}
+use lib.IntN.{ℤ}
 use lib.Pow.{high_ones, pow_mono, pow_pos, shr_le}
 use lib.Signed.{shr_z, mag_shr}
 use mir.Facts.{to_z-of_z}
 use mir.Syntax.{w64}
-use mir.Val.{SFits, of_z, sel, to_z}
+use mir.Val.{SFits, of_z, to_z}
 use mir.ValLaws.{sfits_le}
 use Rattle.manual.specs.Cuts.{negative_cut}
 use Rattle.manual.specs.Halves.{below_or, two_halves, top_bit_clear, top_bit_set, signed_lower, signed_upper, int_sext_lower, int_sext_upper}
@@ -21,12 +19,8 @@ use Rattle.manual.specs.Operations.{int_sright, int_sext, signed}
 
 -- The machine's reading of 64 bits is `signed 64`
 
-either : (b : Bool) (x y : ℤ) → sel b x y ≡ cond b x y
-either true x y = refl
-either false x y = refl
-
 pub as_signed : (a : ℕ) → to_z w64 a ≡ signed 64 a
-as_signed a = either (ltb a (2 ^ 63)) (pos a) (negsuc (2 ^ 64 - suc a))
+as_signed a = grind arith
 
 -- Sign extension to 64 bits, by the sign bit and the ones above it
 
@@ -50,14 +44,7 @@ module _ (w a : ℕ) (some : 1 ≤ w) (small : w ≤ 64) (fits : a < 2 ^ w) wher
   signed_of_extended =
       let h = two_halves w some in
       let s : 2 ^ (w - 1) ≤ 2 ^ 63 = pow_mono {i = w - 1} {j = 63} (omega arith) in
-      ⊎_elim
-      (λ lower. ap (signed 64) (int_sext_lower w a lower 64) ∙ signed_lower 64 a (omega arith) ∙ sym (signed_lower w a lower))
-      (λ upper.
-      ap (signed 64) (int_sext_upper w a upper 64)
-      ∙ signed_upper 64 (2 ^ 64 - (2 ^ w - a)) (omega arith)
-      ∙ ap negsuc (omega arith)
-      ∙ sym (signed_upper w a upper))
-      (below_or a (2 ^ (w - 1)))
+      grind arith
 
   pub read : to_z w64 (int_sext w 64 a) ≡ signed w a
   read = as_signed (int_sext w 64 a) ∙ signed_of_extended
