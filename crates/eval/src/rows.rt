@@ -1,6 +1,5 @@
 // Rows of values for inputs: three words each, the two words of an input and then its value.
 ghost use Rattle.std.specs.Prelude.{◌≡◌, ◌+◌, ◌*◌, ◌<◌, length};
-ghost use Rattle.eval.specs.Answers.{place_of, found_of};
 ghost use Rattle.tree.specs.Rows.{row_words, good_row, bad_row, keyed as keyed_by, found};
 
 use form::sizes;
@@ -8,20 +7,6 @@ use words::fields;
 
 // How many words a row takes.
 const ROW_WORDS: usize = 3;
-
-// Where the first bad row stands.
-#[derive(Clone, Copy)]
-pub enum Place {
-    At(usize),
-    Nowhere,
-}
-
-// The value in the first row of an input.
-#[derive(Clone, Copy)]
-pub enum Found {
-    At(u64),
-    Nothing,
-}
 
 // A whole row: its size is one, and its value fits it.
 fn good_row(rows: &[u64], j: usize) -> bool
@@ -33,21 +18,19 @@ fn good_row(rows: &[u64], j: usize) -> bool
 }
 
 // The first bad row. After the whole rows, one that the slice ends inside is bad too.
-pub fn bad_row(rows: &[u64]) -> Place
-    ensures { result ≡ place_of (bad_row rows.now) }
+pub fn bad_row(rows: &[u64]) -> Option<usize>
+    ensures { result ≡ bad_row rows.now }
 {
     let whole = rows.len() / ROW_WORDS;
-    let mut j: usize = 0;
-    while j < whole {
+    for j in 0..whole {
         if !good_row(rows, j) {
-            return Place::At(j);
+            return Some(j);
         }
-        j += 1;
     }
     if rows.len() % ROW_WORDS == 0 {
-        Place::Nowhere
+        None
     } else {
-        Place::At(whole)
+        Some(whole)
     }
 }
 
@@ -59,16 +42,13 @@ fn keyed(rows: &[u64], j: usize, word: u64, payload: u64) -> bool
 }
 
 // The value of the first row that has these two words.
-pub fn find(rows: &[u64], word: u64, payload: u64) -> Found
-    ensures { result ≡ found_of (found rows.now word payload) }
+pub fn find(rows: &[u64], word: u64, payload: u64) -> Option<u64>
+    ensures { result ≡ found rows.now word payload }
 {
-    let whole = rows.len() / ROW_WORDS;
-    let mut j: usize = 0;
-    while j < whole {
+    for j in 0..rows.len() / ROW_WORDS {
         if keyed(rows, j, word, payload) {
-            return Found::At(rows[ROW_WORDS * j + 2]);
+            return Some(rows[ROW_WORDS * j + 2]);
         }
-        j += 1;
     }
-    Found::Nothing
+    None
 }
