@@ -2,30 +2,26 @@
 #![tactic(auto)]
 
 ghost use Rattle.std.specs.Prelude.{◌≡◌, ◌<◌};
-ghost use Rattle.arena.specs.Live.{Live};
 ghost use Rattle.eval.specs.Answers.{evaluated_live};
 
 pub mod rows;
 pub mod walk;
 
-use rows::Place;
-use tree::Evaluated;
-use walk::Answer;
+use arena::Nodes;
+use tree::EvaluateError;
+use walk::Evaluation;
 
-// What evaluation answers of an arena and a root that have passed the check.
-pub fn evaluate_checked(words: &[u64], count: usize, root: usize, rows: &[u64]) -> Evaluated
-    requires live { Live words.now count }
-    requires root_lt_count { root < count }
-    ensures { result ≡ evaluated_live words.now count root rows.now }
+/// What evaluation answers of nodes and a root that have passed the check.
+#[tactic(auto, unfolding(crate::specs::Answers::evaluated_live))]
+pub fn evaluate_checked(nodes: Nodes<'_>, root: usize, rows: &[u64]) -> Result<u64, EvaluateError>
+    requires { root < nodes.count }
+    ensures { result ≡ evaluated_live nodes.entry.words.now nodes.entry.count root rows.now }
 {
-    if let Place::At(j) = rows::bad_row(rows) {
-        return Evaluated::BadRow(j);
+    if let Some(j) = rows::bad_row(rows) {
+        return Err(EvaluateError::BadRow(j));
     }
-    if walk::has_top(words, count, root) {
-        return Evaluated::TopReachable;
+    if walk::has_top(nodes, root) {
+        return Err(EvaluateError::TopReachable);
     }
-    match walk::value_at(words, count, rows, root) {
-        Answer::Value(value) => Evaluated::Value(value),
-        Answer::Missing(i) => Evaluated::InputMissing(i),
-    }
+    Evaluation { nodes, rows }.value_at(root)
 }

@@ -1,7 +1,7 @@
 // Rows of values for inputs: three words each, the two words of an input and then its value.
-ghost use Rattle.std.specs.Prelude.{◌≡◌, ◌+◌, ◌*◌, ◌<◌, length};
-ghost use Rattle.eval.specs.Answers.{place_of, found_of};
-ghost use Rattle.tree.specs.Rows.{row_words, good_row, bad_row, keyed as keyed_by, found};
+ghost use Rattle.std.specs.Prelude.{◌≡◌};
+ghost use Rattle.eval.specs.Chunks.{good_chunk, value_in};
+ghost use Rattle.tree.specs.Rows.{bad_row, found};
 
 use form::sizes;
 use words::fields;
@@ -9,66 +9,40 @@ use words::fields;
 // How many words a row takes.
 const ROW_WORDS: usize = 3;
 
-// Where the first bad row stands.
-#[derive(Clone, Copy)]
-pub enum Place {
-    At(usize),
-    Nowhere,
-}
-
-// The value in the first row of an input.
-#[derive(Clone, Copy)]
-pub enum Found {
-    At(u64),
-    Nothing,
-}
-
-// A whole row: its size is one, and its value fits it.
-fn good_row(rows: &[u64], j: usize) -> bool
-    requires { row_words * j + 2 < length rows.now }
-    ensures { result ≡ good_row rows.now j }
+// A row is good if it is whole, its size is one, and its value fits it.
+fn good_row(row: &[u64]) -> bool
+    ensures { result ≡ good_chunk row.now }
 {
-    let size = fields::size_of(rows[ROW_WORDS * j]);
-    sizes::is_size(size) & sizes::fits(rows[ROW_WORDS * j + 2], size)
+    match row {
+        [word, _, value] => {
+            let size = fields::size_of(*word);
+            sizes::is_size(size) & sizes::fits(*value, size)
+        }
+        _ => false,
+    }
 }
 
 // The first bad row. After the whole rows, one that the slice ends inside is bad too.
-pub fn bad_row(rows: &[u64]) -> Place
-    ensures { result ≡ place_of (bad_row rows.now) }
+pub fn bad_row(rows: &[u64]) -> Option<usize>
+    ensures { result ≡ bad_row rows.now }
 {
-    let whole = rows.len() / ROW_WORDS;
-    let mut j: usize = 0;
-    while j < whole {
-        if !good_row(rows, j) {
-            return Place::At(j);
-        }
-        j += 1;
-    }
-    if rows.len() % ROW_WORDS == 0 {
-        Place::Nowhere
-    } else {
-        Place::At(whole)
-    }
+    rows.chunks(ROW_WORDS).position(|row| !good_row(row))
 }
 
-fn keyed(rows: &[u64], j: usize, word: u64, payload: u64) -> bool
-    requires { row_words * j + 2 < length rows.now }
-    ensures { result ≡ keyed_by rows.now j word payload }
+// The value in a row that has these two words.
+fn value_in(row: &[u64], word: u64, payload: u64) -> Option<u64>
+    ensures { result ≡ value_in row.now word payload }
 {
-    (rows[ROW_WORDS * j] == word) & (rows[ROW_WORDS * j + 1] == payload)
+    match row {
+        [first, second, value] if (*first == word) & (*second == payload) => Some(*value),
+        _ => None,
+    }
 }
 
 // The value of the first row that has these two words.
-pub fn find(rows: &[u64], word: u64, payload: u64) -> Found
-    ensures { result ≡ found_of (found rows.now word payload) }
+pub fn find(rows: &[u64], word: u64, payload: u64) -> Option<u64>
+    ensures { result ≡ found rows.now word payload }
 {
-    let whole = rows.len() / ROW_WORDS;
-    let mut j: usize = 0;
-    while j < whole {
-        if keyed(rows, j, word, payload) {
-            return Found::At(rows[ROW_WORDS * j + 2]);
-        }
-        j += 1;
-    }
-    Found::Nothing
+    rows.chunks(ROW_WORDS)
+        .find_map(|row| value_in(row, word, payload))
 }

@@ -1,4 +1,2 @@
 pub mod Judged
-pub mod Children
-pub mod Paths
 pub mod Walks

@@ -2,75 +2,64 @@
 #![tactic(auto)]
 
 ghost use Rattle.std.specs.Prelude.{◌≡◌, ◌+◌, ◌*◌, ◌≤◌, ◌<◌, length};
-ghost use Rattle.format.specs.Header.{kind_of};
-ghost use Rattle.format.specs.Kinds.{row_of, kind_count};
-ghost use Rattle.format.specs.Limits.{node_words, header_at};
+ghost use Rattle.format.specs.KindRules.{rows};
+ghost use Rattle.format.specs.Limits.{node_words};
 ghost use Rattle.tree.specs.Form.{judged, scanned, checked};
 
 mod fields;
 mod limits;
 pub mod sizes;
 
+use arena::Nodes;
 use format::Row;
-use tree::Verdict;
-use words::KIND_COUNT;
+use tree::Refusal;
 
-// The verdict on a node of a known kind, by the kind's row: its form before its sizes, whose rule leans on the form.
-fn judge(words: &[u64], row: Row, i: usize) -> Verdict
+// The verdict on a node, by its kind's row of the table: its form before its sizes, whose rule leans on the form.
+fn judge(words: &[u64], kinds: &[Row], i: usize) -> Result<(), Refusal>
     requires i_in_bounds { node_words * i + 1 < length words.now }
-    requires i_bound { kind_of (header_at words.now i) < kind_count }
-    requires row_value { row ≡ row_of (kind_of (header_at words.now i)) }
+    requires kinds_value { kinds.now ≡ rows }
     ensures { result ≡ judged words.now i }
 {
     let word = arena::header_at(words, i);
     let payload = arena::payload_at(words, i);
-    if !fields::row_fits(row, word, payload, i) {
-        return Verdict::IllFormed(i);
-    }
-    if sizes::row_sized(words, row, word, payload) {
-        Verdict::Passed
-    } else {
-        Verdict::IllSized(i)
+    match kinds.get(words::fields::kind_of(word)) {
+        Some(&row) if fields::row_fits(row, word, payload, i) => {
+            if sizes::row_sized(words, row, word, payload) {
+                Ok(())
+            } else {
+                Err(Refusal::IllSized(i))
+            }
+        }
+        _ => Err(Refusal::IllFormed(i)),
     }
 }
 
 // The nodes upward, left at the first bad one with its verdict. The table of kinds is made once, before the first node.
-fn scan(words: &[u64], count: usize) -> Verdict
+fn scan(words: &[u64], count: usize) -> Result<(), Refusal>
     requires { node_words * count ≤ length words.now }
     ensures { result ≡ scanned words.now count 0 }
 {
     let kinds = words::kinds::table();
-    let mut i: usize = 0;
-    loop {
-        if count <= i {
-            break Verdict::Passed;
-        }
-        let kind = words::fields::kind_of(arena::header_at(words, i));
-        if KIND_COUNT <= kind {
-            break Verdict::IllFormed(i);
-        }
-        let verdict = judge(words, kinds[kind], i);
-        if let Verdict::Passed = verdict {
-            i += 1;
-        } else {
-            break verdict;
+    let mut verdict = Ok(());
+    for i in 0..count {
+        verdict = judge(words, &kinds, i);
+        if verdict.is_err() {
+            break;
         }
     }
+    verdict
 }
 
-pub fn check(words: &[u64], count: usize, root: usize) -> Verdict
+/// Checks the first `count` nodes of the words, and the tree under the root. An error is the first thing that is wrong.
+pub fn check(words: &[u64], count: usize, root: usize) -> Result<(), Refusal>
     ensures { result ≡ checked words.now count root }
 {
     if arena::capacity(words.len()) < count {
-        return Verdict::CountAboveCapacity;
+        return Err(Refusal::CountAboveCapacity);
     }
     if count <= root {
-        return Verdict::RootNotBelowCount;
+        return Err(Refusal::RootNotBelowCount);
     }
-    let verdict = scan(words, count);
-    if let Verdict::Passed = verdict {
-        limits::limited(words, count, root)
-    } else {
-        verdict
-    }
+    scan(words, count)?;
+    limits::limited(Nodes { words, count }, root)
 }

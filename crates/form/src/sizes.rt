@@ -4,7 +4,7 @@ ghost use Rattle.format.specs.Header.{left_of, right_of};
 ghost use Rattle.format.specs.Limits.{node_words};
 ghost use Rattle.tree.specs.Form.{is_size, same_size, no_wider, one_size, sized as sized_of, child_size, row_sized};
 
-use format::{ChildSize, Row, Sizing};
+use format::{Row, Sizing};
 
 // Top's number.
 const KIND_TOP: usize = 0;
@@ -12,48 +12,35 @@ const KIND_TOP: usize = 0;
 pub fn is_size(size: u64) -> bool
     ensures { result ≡ is_size size }
 {
-    (size == 1) | ((size == 2) | ((size == 4) | (size == 8)))
+    matches!(size, 1 | 2 | 4 | 8)
 }
 
-fn same_size(size: u64, child: ChildSize) -> bool
+fn same_size(size: u64, child: Option<u64>) -> bool
     ensures { result ≡ same_size size child }
 {
-    match child {
-        ChildSize::Absent => true,
-        ChildSize::Bytes(bytes) => bytes == size,
-    }
+    child.is_none_or(|bytes| bytes == size)
 }
 
-fn no_wider(size: u64, child: ChildSize) -> bool
+fn no_wider(size: u64, child: Option<u64>) -> bool
     ensures { result ≡ no_wider size child }
 {
-    match child {
-        ChildSize::Absent => true,
-        ChildSize::Bytes(bytes) => bytes <= size,
-    }
+    child.is_none_or(|bytes| bytes <= size)
 }
 
-fn one_size(left: ChildSize, right: ChildSize) -> bool
+fn one_size(left: Option<u64>, right: Option<u64>) -> bool
     ensures { result ≡ one_size left right }
 {
-    match left {
-        ChildSize::Absent => true,
-        ChildSize::Bytes(bytes) => same_size(bytes, right),
-    }
+    left.is_none_or(|bytes| same_size(bytes, right))
 }
 
 // Whether a value fits `size` bytes. Every word fits eight.
 pub fn fits(value: u64, size: u64) -> bool
     ensures { result ≡ ltb value (2 ^ (8 * size)) }
 {
-    if 8 <= size {
-        true
-    } else {
-        value < (1 << (8 * size))
-    }
+    8 <= size || value < (1 << (8 * size))
 }
 
-fn sized(sizing: Sizing, size: u64, payload: u64, left: ChildSize, right: ChildSize) -> bool
+fn sized(sizing: Sizing, size: u64, payload: u64, left: Option<u64>, right: Option<u64>) -> bool
     ensures { result ≡ sized_of sizing size payload left right }
 {
     let known = is_size(size);
@@ -69,18 +56,15 @@ fn sized(sizing: Sizing, size: u64, payload: u64, left: ChildSize, right: ChildS
 }
 
 // What the rule sees of a child: nothing of one that the kind does not have, or that is Top.
-fn child_size(words: &[u64], used: bool, child: usize) -> ChildSize
+fn child_size(words: &[u64], used: bool, child: usize) -> Option<u64>
     requires { used ≡ true → node_words * child + 1 < length words.now }
     ensures { result ≡ child_size words.now used child }
 {
     if !used {
-        return ChildSize::Absent;
+        return None;
     }
     let word = arena::header_at(words, child);
-    if words::fields::kind_of(word) == KIND_TOP {
-        return ChildSize::Absent;
-    }
-    ChildSize::Bytes(words::fields::size_of(word))
+    (words::fields::kind_of(word) != KIND_TOP).then_some(words::fields::size_of(word))
 }
 
 // The rule of a row, at a node whose children lie in the slice.
@@ -92,6 +76,5 @@ pub fn row_sized(words: &[u64], row: Row, word: u64, payload: u64) -> bool
     let left = child_size(words, 1 <= row.arity, words::fields::left_of(word));
     let right = child_size(words, 2 <= row.arity, words::fields::right_of(word));
     let size = words::fields::size_of(word);
-    let sizing = row.sizing;
-    sized(sizing, size, payload, left, right)
+    sized(row.sizing, size, payload, left, right)
 }

@@ -1,8 +1,7 @@
 -- The questions in their order; what has passed the scan is live, as the walks ask. Assumes nothing.
-use Rattle.std.proofs.Common.{sym, ◌∙◌}
+use Rattle.std.proofs.Common.{rules, sym, ◌∙◌, ◌≡◌, Err}
 use Rattle.formed.specs.LiveOfChecked.{live_of_scan}
 use Rattle.formed.specs.Order.{count_above, root_not_below, scan_decides}
-use Rattle.form.proofs.Refused.{refused}
 use Rattle.form.proofs.check.Goals as goal
 
 pub returns-then-capacity-count : goal.returns-then-capacity-count
@@ -13,20 +12,18 @@ returns-then-count-root c =
     let room = rw c.capacity.ensures at c.if-capacity-count.false in
     sym (root_not_below _ _ _ room c.if-count-root.true)
 
-pub limited-requires : goal.limited-requires
-limited-requires c =
+pub returns-in_err-scan : goal.returns-in_err-scan
+returns-in_err-scan c =
     let room = rw c.capacity.ensures at c.if-capacity-count.false in
-    record {
-      live = live_of_scan _ _ (λ k. (c.type_inv.words k).fits) room (sym c.in-Passed.ensures);
-      below = c.if-count-root.false;
-    }
+    let same : c.from_residual.result ≡ Err c.in_err-scan.field-0.0 = search rules in
+    same ∙ sym (scan_decides _ _ _ room c.if-count-root.false _ (sym c.in_err-scan.ensures))
 
-pub returns-in-Passed : goal.returns-in-Passed
-returns-in-Passed c =
+pub invariant_of-limited : goal.invariant_of-limited
+invariant_of-limited c =
     let room = rw c.capacity.ensures at c.if-capacity-count.false in
-    c.limited.ensures ∙ sym (scan_decides _ _ _ room c.if-count-root.false _ (sym c.in-Passed.ensures))
+    record { live = live_of_scan _ _ (λ k. (c.type_inv.words k).fits) room (sym c.in_ok-scan.ensures) }
 
-pub returns-in_default : goal.returns-in_default
-returns-in_default c =
+pub returns : goal.returns
+returns c =
     let room = rw c.capacity.ensures at c.if-capacity-count.false in
-    sym (scan_decides _ _ _ room c.if-count-root.false _ (sym c.scan-verdict.ensures) ∙ refused _ _ c.in_default.not-Passed)
+    c.limited.ensures ∙ sym (scan_decides _ _ _ room c.if-count-root.false _ (sym c.in_ok-scan.ensures))

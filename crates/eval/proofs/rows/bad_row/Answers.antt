@@ -1,21 +1,12 @@
--- The first bad row, row by row. Assumes nothing.
-use Rattle.std.proofs.Common.{sym, ◌∙◌, arith, eq-eqb, ne_eqb}
-use Rattle.theory.specs.RowLaws.{bad_step, bad_end}
+-- The first bad row, chunk by chunk. Assumes nothing.
+use Rattle.std.proofs.Common.{rules, arith}
+use Rattle.std.specs.Iterator.Runs.{IsChunksRun}
+use Rattle.tree.specs.Rows.{row_words}
+use Rattle.eval.proofs.Searches.{bad_by}
 use Rattle.eval.proofs.rows.bad_row.Goals as goal
 
-pub returns-then-not-good_row : goal.returns-then-not-good_row
-returns-then-not-good_row c = rw (c.loop-j.invariant.rest_decides, bad_step _ _ _ c.loop-j-test.true, ← c.if-not-good_row.ensures)
-
-pub loop-j-preserved : goal.loop-j-preserved
-loop-j-preserved c = record {
-  within = omega arith;
-  rest_decides = c.loop-j.invariant.rest_decides ∙ bad_step _ _ _ c.loop-j-test.true ∙ rw (sym c.if-not-good_row.ensures);
-}
-
-pub returns-then-rows-eq0 : goal.returns-then-rows-eq0
-returns-then-rows-eq0 c =
-    rw (c.loop-j.invariant.rest_decides, bad_end _ _ _ c.loop-j.invariant.within c.loop-j-test.false, eq-eqb _ _ c.if-rows-eq0.true)
-
-pub returns-else-rows-eq0 : goal.returns-else-rows-eq0
-returns-else-rows-eq0 c =
-    rw (c.loop-j.invariant.rest_decides, bad_end _ _ _ c.loop-j.invariant.within c.loop-j-test.false, ne_eqb _ _ c.if-rows-eq0.false)
+pub returns : goal.returns
+returns c =
+    let run = c.position.ensures.runs in
+    let chunks : IsChunksRun run.0 row_words c.args.rows.now = rw (run.1, c.chunks.ensures.size, c.chunks.ensures.rest) at (c.chunks.ensures.runs run.0 run.0.seen (rw (run.1, c.chunks.ensures.size) (omega arith))) in
+    bad_by c.args.rows run.0 chunks _ _ (λ a r f k. search rules) (λ x r k. search rules) c.position.result run.2

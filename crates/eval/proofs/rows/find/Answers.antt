@@ -1,17 +1,12 @@
--- The row sought, row by row. Assumes nothing.
-use Rattle.std.proofs.Common.{sym, ◌∙◌, arith}
-use Rattle.theory.specs.RowLaws.{found_step, found_end}
+-- The row sought, chunk by chunk. Assumes nothing.
+use Rattle.std.proofs.Common.{rules, arith}
+use Rattle.std.specs.Iterator.Runs.{IsChunksRun}
+use Rattle.tree.specs.Rows.{row_words}
+use Rattle.eval.proofs.Searches.{found_by}
 use Rattle.eval.proofs.rows.find.Goals as goal
 
-pub returns-then-keyed : goal.returns-then-keyed
-returns-then-keyed c =
-    rw (c.loop-j.invariant.rest_decides, found_step _ _ _ _ _ c.loop-j-test.true, ← c.if-keyed.ensures)
-
-pub loop-j-preserved : goal.loop-j-preserved
-loop-j-preserved c = record {
-  within = omega arith;
-  rest_decides = c.loop-j.invariant.rest_decides ∙ found_step _ _ _ _ _ c.loop-j-test.true ∙ rw (sym c.if-keyed.ensures);
-}
-
 pub returns : goal.returns
-returns c = rw (c.loop-j.invariant.rest_decides, found_end _ _ _ _ _ c.loop-j-test.false)
+returns c =
+    let run = c.find_map.ensures.runs in
+    let chunks : IsChunksRun run.0 row_words c.args.rows.now = rw (run.1, c.chunks.ensures.size, c.chunks.ensures.rest) at (c.chunks.ensures.runs run.0 run.0.seen (rw (run.1, c.chunks.ensures.size) (omega arith))) in
+    found_by c.args.rows run.0 chunks _ _ (λ a r f k. search rules) c.args.word c.args.payload (λ x r k. search rules) c.find_map.result run.2

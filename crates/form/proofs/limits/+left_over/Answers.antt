@@ -1,19 +1,23 @@
 -- The budget and the limit on paths go down by the node; its children share what is left. Assumes nothing.
-use Rattle.std.proofs.Common.{sym}
+use Rattle.std.proofs.Common.{sym, ◌∙◌, inl, inr}
 use Rattle.arena.specs.Live.{tree_of}
-use Rattle.form.specs.Walks.{no_path_left, over_at_leaf, over_at_one, over_at_two}
+use Rattle.form.specs.Walks.{no_budget, no_path, over_leaf, over_one, over_two}
 use Rattle.form.proofs.limits.+left_over.Goals as goal
 
-pub returns-then-most-eq0 : goal.returns-then-most-eq0
-returns-then-most-eq0 t c =
-    no_path_left _ c.args.most c.if-most-eq0.true (tree_of c.args.count c.args.words.now c.args.i)
+pub returns-then-budget-eq0 : goal.returns-then-budget-eq0
+returns-then-budget-eq0 t c =
+    let tree = tree_of c.args.nodes.count c.args.nodes.words.now c.args.i in
+    elim c.then-budget-eq0.either [ inl e ↦ no_budget tree _ c.args.most e | inr e ↦ no_path tree c.args.budget _ e.1 ]
 
-pub returns-in-None : goal.returns-in-None
-returns-in-None t c = over_at_leaf c.requires _ _ c.if-most-eq0.false (sym c.in-None.ensures)
+pub returns-in-Unary : goal.returns-in-Unary
+returns-in-Unary t c =
+    c.left_over.ensures ∙ over_one c.args.nodes.live c.requires c.args.budget _ c.if-most-eq0.false _ _ _ (sym c.in-Unary.ensures)
 
-pub returns-in-One : goal.returns-in-One
-returns-in-One t c = over_at_one c.requires _ _ c.if-most-eq0.false _ _ (sym c.in-One.ensures) c.left_over.ensures
+pub returns-in-Binary : goal.returns-in-Binary
+returns-in-Binary t c =
+    c.left_over-in-Binary.ensures
+    ∙ over_two c.args.nodes.live c.requires c.args.budget _ c.if-most-eq0.false _ _ _ _ (sym c.in-Binary.ensures) _ c.left_over-rest.ensures
 
-pub returns-in-Two : goal.returns-in-Two
-returns-in-Two t c =
-    over_at_two c.requires _ _ c.if-most-eq0.false _ _ _ _ (sym c.in-Two.ensures) c.left_over-rest.ensures c.left_over-in-Two.ensures
+pub returns-in_default : goal.returns-in_default
+returns-in_default t c =
+    over_leaf c.args.nodes.live c.requires _ _ c.if-most-eq0.false _ (sym c.node.ensures) c.in_default.not-Unary c.in_default.not-Binary

@@ -1,5 +1,5 @@
 -- A node's answer, by recursion on the index. Assumes nothing.
-use Rattle.eval.proofs.walk.+value_at.Given as goal
+use Rattle.eval.proofs.walk.Evaluation.+value_at.Given as goal
 
 abbrev pub decreases-value_at : goal.decreases-value_at
 decreases-value_at l = l.i
