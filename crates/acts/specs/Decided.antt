@@ -11,9 +11,8 @@ use Rattle.format.specs.Truth.{or_neither}
 use Rattle.format.specs.declared.Bin.{Bin}
 use Rattle.format.specs.declared.Sizing.{Sizing}
 use Rattle.format.specs.declared.Un.{Un}
-use Rattle.rules.specs.Rules.{constant_of, view, constants, decided, bin_act}
+use Rattle.rules.specs.Rules.{constant_of, view, decided, bin_act}
 use Rattle.rules.specs.declared.Act.{Act}
-use Rattle.rules.specs.declared.Constants.{Constants}
 use Rattle.rules.specs.declared.View.{View}
 use Rattle.theory.proofs.Seen.{constant_shows}
 use Rattle.theory.specs.Sizes.{size_bounds, un_is_size, bin_is_size, free_is_top}
@@ -24,24 +23,18 @@ use Rattle.tree.specs.Tree.{Tree, binary, size, same}
 use Rattle.values.specs.Operands.{Fitting}
 use Rattle.values.specs.SizedOperands.{unary_operand, binary_operands}
 
-by_views : (op : Bin) (s : ℕ) (a b : Tree) {x y : View} {z : Constants} → x ≡ view a → y ≡ view b → z ≡ constants (view_constant x) (view_constant y) →
-    decided op s (same a b) x y (size a) z ≡ bin_act op s a b
-by_views op s a b p q e = rw (e, p, q, view_constant_lem a, view_constant_lem b)
+by_views : (op : Bin) (s : ℕ) (a b : Tree) {x y : View} {u v : Option ℕ} → x ≡ view a → y ≡ view b → u ≡ view_constant x → v ≡ view_constant y →
+    decided op s (same a b) x y (size a) u v ≡ bin_act op s a b
+by_views op s a b p q e f = rw (e, f, p, q, view_constant_lem a, view_constant_lem b)
 
 -- the decision of code that has read the views x and y and found the constants w
-pub read_as : (op : Bin) (s : ℕ) (a b : Tree) {x y : View} {z w : Constants} {act : Act} → x ≡ view a → y ≡ view b →
-    z ≡ constants (view_constant x) (view_constant y) → z ≡ w → act ≡ decided op s (same a b) x y (size a) w → act ≡ bin_act op s a b
-read_as op s a b {x} {y} p q e f g = g ∙ ap (decided op s (same a b) x y (size a)) (sym f) ∙ by_views op s a b p q e
+pub read_as : (op : Bin) (s : ℕ) (a b : Tree) {x y : View} {u v w z : Option ℕ} {act : Act} → x ≡ view a → y ≡ view b →
+    u ≡ view_constant x → v ≡ view_constant y → u ≡ w → v ≡ z → act ≡ decided op s (same a b) x y (size a) w z → act ≡ bin_act op s a b
+read_as op s a b {x} {y} p q e f g h k = k ∙ by_views op s a b p q (sym g ∙ e) (sym h ∙ f)
 
 -- a size that passed
 pub is_size_lem : (s : ℕ) → is_size s ≡ true → Size s
 is_size_lem s e = let b = size_bounds s e in record { least = b.0; most = b.1 }
-
-both_constant : (u v : Option ℕ) {m n : ℕ} → constants u v ≡ Constants.Both m n → (u ≡ Some m) × (v ≡ Some n)
-both_constant None None e = let z : ◌≡◌ {A = ℕ} 0 1 = cc in absurd (omega arith)
-both_constant None (Some b) e = let z : ◌≡◌ {A = ℕ} 0 1 = cc in absurd (omega arith)
-both_constant (Some a) None e = let z : ◌≡◌ {A = ℕ} 0 1 = cc in absurd (omega arith)
-both_constant (Some a) (Some b) e = (cc, cc)
 
 -- THE OPERANDS OF A FOLD: constants are values, whatever the assignment
 
@@ -62,16 +55,16 @@ module _ {words : List ℕ} {count : ℕ} (live : Live words count) where
   pub over_size : {op : Bin} {s a b : ℕ} → BinaryOver words count op s a b → Size s
   over_size {op} {s} o = is_size_lem s (bin_is_size op s _ _ o.sized_over)
 
-  pub fold_fitting : {op : Bin} {s a b : ℕ} → BinaryOver words count op s a b → {x y : View} {z : Constants} → x ≡ view (tree_of count words a) →
-      y ≡ view (tree_of count words b) → z ≡ constants (view_constant x) (view_constant y) → (m n : ℕ) → z ≡ Constants.Both m n →
+  pub fold_fitting : {op : Bin} {s a b : ℕ} → BinaryOver words count op s a b → {x y : View} {u v : Option ℕ} → x ≡ view (tree_of count words a) →
+      y ≡ view (tree_of count words b) → u ≡ view_constant x → v ≡ view_constant y → (m n : ℕ) → u ≡ Some m → v ≡ Some n →
       Fitting (bin_sizing op) s (size (tree_of count words a)) m n
-  fold_fitting {op} {s} {a} {b} o {x} {y} {z} p' q' e m n f =
+  fold_fitting {op} {s} {a} {b} o {x} {y} p' q' e f m n g h =
       let t = tree_of count words a in
       let u = tree_of count words b in
-      let both : constants (constant_of t) (constant_of u) ≡ Constants.Both m n = rw (← (view_constant_lem t), ← (view_constant_lem u), ← p', ← q') (sym e ∙ f) in
-      let k = both_constant (constant_of t) (constant_of u) both in
+      let left : constant_of t ≡ Some m = sym (view_constant_lem t) ∙ ap view_constant (sym p') ∙ sym e ∙ g in
+      let right : constant_of u ≡ Some n = sym (view_constant_lem u) ∙ ap view_constant (sym q') ∙ sym f ∙ h in
       let whole : Sized (binary op s t u) = (o.sized_over, live.sized a o.left_below, live.sized b o.right_below) in
-      rw (constant_value t m whole.1 k.0, constant_value u n whole.2 k.1) at
+      rw (constant_value t m whole.1 left, constant_value u n whole.2 right) at
       (binary_operands nowhere nowhere_fits op s t u whole (or_neither _ _ o.left_topless o.right_topless))
 
   -- THE OPERAND OF A RULE OF ONE CHILD

@@ -2,15 +2,16 @@
 ghost use Rattle.std.specs.Prelude.{◌≡◌, cond, ◌<◌};
 ghost use Rattle.tree.specs.Tree.{same};
 ghost use Rattle.rules.specs.Rules.{rule_of, on_left, on_right, on_equal, bin_act, un_act};
-ghost use Rattle.arena.specs.Live.{Live, tree_of};
+ghost use Rattle.arena.specs.Live.{tree_of};
 ghost use Rattle.acts.specs.Operated.{UnaryOver, BinaryOver};
 
 use crate::beside::{beside, equals, swaps};
 use crate::int2comp::neg_act;
 use crate::sign_extend::sext_act;
-use crate::view::{constants_of, view_at};
+use crate::view::{constant_of, view_at};
+use arena::Nodes;
 use format::{Bin, Un};
-use rules::{Act, Beside, Constants, Equals, Near};
+use rules::{Act, Beside, Equals, Near};
 
 fn on_left(beside: Beside) -> Act
     ensures { result ≡ on_left beside }
@@ -37,21 +38,22 @@ fn on_right(beside: Beside) -> Act
 }
 
 // Trees are compared only for a kind that looks for equal ones.
-fn equal_act(words: &[u64], count: usize, op: Bin, a: usize, b: usize) -> Act
-    requires live { Live words.now count }
-    requires a_lt_count { (a < count) × (b < count) }
-    ensures { result ≡ cond (same (tree_of count words.now a) (tree_of count words.now b)) (on_equal (rule_of op).equal) Act.Keep }
+fn equal_act(nodes: Nodes<'_>, op: Bin, a: usize, b: usize) -> Act
+    requires a_lt_count { (a < nodes.count) × (b < nodes.count) }
+    ensures {
+        result ≡ cond (same (tree_of nodes.entry.count nodes.entry.words.now a) (tree_of nodes.entry.count nodes.entry.words.now b)) (on_equal (rule_of op).equal) Act.Keep
+    }
 {
     match equals(op) {
         Equals::Stay => Act::Keep,
         Equals::Zero => {
-            if equal::same(words, count, a, b) {
+            if equal::same(nodes.words, nodes.count, a, b) {
                 return Act::Make(0);
             }
             Act::Keep
         }
         Equals::Left => {
-            if equal::same(words, count, a, b) {
+            if equal::same(nodes.words, nodes.count, a, b) {
                 return Act::Give(Near::Left);
             }
             Act::Keep
@@ -59,37 +61,41 @@ fn equal_act(words: &[u64], count: usize, op: Bin, a: usize, b: usize) -> Act
     }
 }
 
-pub fn bin_act(words: &[u64], count: usize, op: Bin, size: u64, a: usize, b: usize) -> Act
-    requires live { Live words.now count }
-    requires binary_over { BinaryOver words.now count op size a b }
-    ensures { result ≡ bin_act op size (tree_of count words.now a) (tree_of count words.now b) }
+pub fn bin_act(nodes: Nodes<'_>, op: Bin, size: u64, a: usize, b: usize) -> Act
+    requires { BinaryOver nodes.words.now nodes.count op size a b }
+    ensures {
+        result ≡ bin_act op size (tree_of nodes.entry.count nodes.entry.words.now a) (tree_of nodes.entry.count nodes.entry.words.now b)
+    }
 {
-    let left = view_at(words, count, a);
-    let right = view_at(words, count, b);
-    match constants_of(left, right) {
-        Constants::Neither => equal_act(words, count, op, a, b),
-        Constants::Left(m) => {
-            if swaps(op) {
-                return on_right(beside(op, size, right, m));
+    let left = view_at(nodes, a);
+    let right = view_at(nodes, b);
+    match constant_of(left) {
+        Some(m) => match constant_of(right) {
+            Some(n) => {
+                let child = nodes.node(a).size();
+                Act::Make(values::bin_value(op, size, child, m, n))
             }
-            Act::Keep
-        }
-        Constants::Right(n) => on_left(beside(op, size, left, n)),
-        Constants::Both(m, n) => {
-            let child = arena::size_of(arena::node_at(words, a));
-            Act::Make(values::bin_value(op, size, child, m, n))
-        }
+            None => {
+                if swaps(op) {
+                    return on_right(beside(op, size, right, m));
+                }
+                Act::Keep
+            }
+        },
+        None => match constant_of(right) {
+            Some(n) => on_left(beside(op, size, left, n)),
+            None => equal_act(nodes, op, a, b),
+        },
     }
 }
 
-pub fn un_act(words: &[u64], count: usize, op: Un, size: u64, a: usize) -> Act
-    requires live { Live words.now count }
-    requires unary_over { UnaryOver words.now count op size a }
-    ensures { result ≡ un_act op size (tree_of count words.now a) }
+pub fn un_act(nodes: Nodes<'_>, op: Un, size: u64, a: usize) -> Act
+    requires { UnaryOver nodes.words.now nodes.count op size a }
+    ensures { result ≡ un_act op size (tree_of nodes.entry.count nodes.entry.words.now a) }
 {
-    let view = view_at(words, count, a);
+    let view = view_at(nodes, a);
     match op {
-        Un::SignExtend => sext_act(size, arena::size_of(arena::node_at(words, a)), view),
+        Un::SignExtend => sext_act(size, nodes.node(a).size(), view),
         Un::Int2Comp => neg_act(size, view),
     }
 }

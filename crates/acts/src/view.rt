@@ -1,17 +1,16 @@
 // What a rule sees of its children.
-ghost use Rattle.std.specs.Prelude.{◌≡◌, ◌+◌, ◌*◌, ◌<◌, length};
-ghost use Rattle.std.proofs.Math.Option.{some};
-ghost use Rattle.format.specs.Limits.{node_words};
+ghost use Rattle.std.specs.Prelude.{◌≡◌, ◌<◌, Some};
 ghost use Rattle.tree.specs.Arena.{node_at};
-ghost use Rattle.rules.specs.Rules.{view, bin_view, un_view, constants};
-ghost use Rattle.arena.specs.Live.{Live, tree_of};
+ghost use Rattle.rules.specs.Rules.{view, bin_view, un_view};
+ghost use Rattle.arena.specs.Live.{tree_of};
 ghost use Rattle.acts.specs.Views.{node_constant, view_constant};
 
+use arena::Nodes;
 use format::{Bin, Node, Un};
-use rules::{Constants, View};
+use rules::View;
 
 fn plus_or_minus(op: Bin, a: u64) -> View
-    ensures { result ≡ bin_view op (some a) }
+    ensures { result ≡ bin_view op (Some a) }
 {
     match op {
         Bin::Add => View::Plus(a),
@@ -29,12 +28,12 @@ fn plus_or_minus(op: Bin, a: u64) -> View
 }
 
 // What an operator shows beside its right child, node `right`.
-fn bin_view(words: &[u64], op: Bin, right: usize) -> View
-    requires { node_words * right + 1 < length words.now }
-    ensures { result ≡ bin_view op (node_constant (node_at words.now right)) }
+fn bin_view(nodes: Nodes<'_>, op: Bin, right: usize) -> View
+    requires { right < nodes.count }
+    ensures { result ≡ bin_view op (node_constant (node_at nodes.entry.words.now right)) }
 {
-    if arena::is_const(words, right) {
-        return plus_or_minus(op, arena::payload_at(words, right));
+    if nodes.is_const(right) {
+        return plus_or_minus(op, nodes.payload(right));
     }
     View::Other
 }
@@ -48,32 +47,25 @@ fn un_view(op: Un, size: u64) -> View
     }
 }
 
-pub fn view_at(words: &[u64], count: usize, i: usize) -> View
-    requires live { Live words.now count }
-    requires i_lt_count { i < count }
-    ensures { result ≡ view (tree_of count words.now i) }
+pub fn view_at(nodes: Nodes<'_>, i: usize) -> View
+    requires i_lt_count { i < nodes.count }
+    ensures { result ≡ view (tree_of nodes.entry.count nodes.entry.words.now i) }
 {
-    match arena::node_at(words, i) {
+    match nodes.node(i) {
         Node::Top => View::Other,
         Node::Entry(_, _, _) => View::Other,
         Node::Const(_, value) => View::Constant(value),
         Node::Bind(_, _) => View::Other,
         Node::Unary(op, size, _) => un_view(op, size),
-        Node::Binary(op, _, _, right) => bin_view(words, op, right),
+        Node::Binary(op, _, _, right) => bin_view(nodes, op, right),
     }
 }
 
-pub fn constants_of(a: View, b: View) -> Constants
-    ensures { result ≡ constants (view_constant a) (view_constant b) }
+pub fn constant_of(a: View) -> Option<u64>
+    ensures { result ≡ view_constant a }
 {
-    if let View::Constant(m) = a {
-        if let View::Constant(n) = b {
-            return Constants::Both(m, n);
-        }
-        return Constants::Left(m);
+    match a {
+        View::Constant(m) => Some(m),
+        _ => None,
     }
-    if let View::Constant(n) = b {
-        return Constants::Right(n);
-    }
-    Constants::Neither
 }
