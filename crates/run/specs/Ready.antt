@@ -4,7 +4,7 @@ use Rattle.std.proofs.Common.{ap, sym, ◌∙◌, arith}
 use Rattle.arena.specs.Ended.{Ended}
 use Rattle.arena.specs.Live.{Live, New, tree_of, node_is_top, node_is_leaf}
 use Rattle.arena.specs.LiveLaws.{live_ordered, in_arena, top_at, tree_of_node}
-use Rattle.arena.specs.declared.Step.{Step}
+use Rattle.arena.specs.Step.{Step}
 use Rattle.format.specs.Truth.{or_neither, not_both}
 use Rattle.format.specs.declared.Bin.{Bin}
 use Rattle.format.specs.declared.Node.{Node}

@@ -9,9 +9,14 @@ use Rattle.rules.specs.declared.Act.{Act}
 use Rattle.rules.specs.declared.Beside.{Beside}
 use Rattle.rules.specs.declared.Equals.{Equals}
 use Rattle.rules.specs.declared.View.{View}
-use Rattle.settle.specs.declared.turn.Turn.{Turn}
 use Rattle.theory.specs.Visits.{redoes}
 use Rattle.tree.specs.Tree.{Tree, size, same}
+
+-- Add's and Sub's rules simplify again; a plain rule never does
+pub data Turn : Type 0 where
+  Add : Turn
+  Sub : Turn
+  Plain : Turn
 
 abbrev pub turn_of : Bin → Turn
 turn_of Bin.Add = Turn.Add
@@ -61,34 +66,34 @@ turn_sub Bin.IntSBorrow e = no_sub e
 
 -- PLAIN RULES NEVER SIMPLIFY AGAIN
 
-abbrev Plain : Beside → Type 0
-Plain Beside.Stay = Unit {0}
-Plain Beside.Itself = Unit {0}
-Plain (Beside.Make v) = Unit {0}
-Plain (Beside.Redo op v) = ⊥
-Plain (Beside.RedoInner op v) = ⊥
+abbrev Settled : Beside → Type 0
+Settled Beside.Stay = Unit {0}
+Settled Beside.Itself = Unit {0}
+Settled (Beside.Make v) = Unit {0}
+Settled (Beside.Redo op v) = ⊥
+Settled (Beside.RedoInner op v) = ⊥
 
-plain_beside : (op : Bin) (s : ℕ) (v : View) (n : ℕ) → turn_of op ≡ Turn.Plain → Plain ((rule_of op).beside s v n)
+plain_beside : (op : Bin) (s : ℕ) (v : View) (n : ℕ) → turn_of op ≡ Turn.Plain → Settled ((rule_of op).beside s v n)
 plain_beside Bin.Add s v n e = let z : ◌≡◌ {A = ℕ} 0 1 = cc in absurd (omega arith)
 plain_beside Bin.Sub s v n e = let z : ◌≡◌ {A = ℕ} 0 1 = cc in absurd (omega arith)
-plain_beside Bin.Mul s v n e = either Plain (eqb n 1) tt (either Plain (eqb n 0) tt tt)
-plain_beside Bin.Xor s v n e = either Plain (eqb n 0) tt tt
-plain_beside Bin.Or s v n e = either Plain (eqb n 0) tt (either Plain (eqb n (2 ^ (8 * s) - 1)) tt tt)
-plain_beside Bin.IntLeftShift s v n e = either Plain (eqb n 0) tt tt
-plain_beside Bin.IntRightShift s v n e = either Plain (eqb n 0) tt tt
-plain_beside Bin.IntSignedRightShift s v n e = either Plain (eqb n 0) tt tt
+plain_beside Bin.Mul s v n e = either Settled (eqb n 1) tt (either Settled (eqb n 0) tt tt)
+plain_beside Bin.Xor s v n e = either Settled (eqb n 0) tt tt
+plain_beside Bin.Or s v n e = either Settled (eqb n 0) tt (either Settled (eqb n (2 ^ (8 * s) - 1)) tt tt)
+plain_beside Bin.IntLeftShift s v n e = either Settled (eqb n 0) tt tt
+plain_beside Bin.IntRightShift s v n e = either Settled (eqb n 0) tt tt
+plain_beside Bin.IntSignedRightShift s v n e = either Settled (eqb n 0) tt tt
 plain_beside Bin.IntCarry s v n e = tt
 plain_beside Bin.IntSCarry s v n e = tt
 plain_beside Bin.IntSBorrow s v n e = tt
 
-left_plain : (o : Beside) → Plain o → redoes (on_left o) ≡ false
+left_plain : (o : Beside) → Settled o → redoes (on_left o) ≡ false
 left_plain Beside.Stay p = refl
 left_plain Beside.Itself p = refl
 left_plain (Beside.Make v) p = refl
 left_plain (Beside.Redo op v) p = absurd p
 left_plain (Beside.RedoInner op v) p = absurd p
 
-right_plain : (o : Beside) → Plain o → redoes (on_right o) ≡ false
+right_plain : (o : Beside) → Settled o → redoes (on_right o) ≡ false
 right_plain Beside.Stay p = refl
 right_plain Beside.Itself p = refl
 right_plain (Beside.Make v) p = refl
