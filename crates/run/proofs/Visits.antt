@@ -62,18 +62,17 @@ module _ {old : Arena} {node : One} (at : OneStands old node) where
 
   module _ {mid : Arena} {a : ℕ} (h : Ends old mid (run_in old node.left) (Ok a)) where
     pub one_next : (weight (unary node.op node.size (tree_in mid a)) ≤ weight (tree_in old node.index)) × OneReadyIn mid node a
-    one_next =
-        (
-          unary_lighter old.live node.index at.0 node.op node.size node.left at.1 mid.words.now a mid.count h.ended,
-          one_ready old.live node.index at.0 node.op node.size node.left at.1 mid.words.now a mid.count h.ended,
-        )
+    one_next = (
+      unary_lighter old.live node.index at.0 node.op node.size node.left at.1 mid.words.now a mid.count h.ended,
+      one_ready old.live node.index at.0 node.op node.size node.left at.1 mid.words.now a mid.count h.ended,
+    )
 
     pub one_ends : {new : Arena} {root : Result ℕ NoRoom} → Ends mid new (after_one_in mid node a) root → Ends old new (run_in old node.index) root
     one_ends {new} {root} g = record {
       same_reference = g.same_reference ∙ h.same_reference;
       ended =
-        unary_ended old.live node.index at.0 node.op node.size node.left at.1 mid.words.now a mid.count h.ended
-        new.words.now (step_of new.count root) (is_top (tree_in mid a)) refl g.ended;
+          unary_ended old.live node.index at.0 node.op node.size node.left at.1 mid.words.now a mid.count h.ended
+          new.words.now (step_of new.count root) (is_top (tree_in mid a)) refl g.ended;
     }
 
 -- A NODE OF TWO CHILDREN: the left one, the right one, then what comes after them
@@ -94,37 +93,35 @@ module _ {old : Arena} {node : Two} (at : TwoStands old node) where
   module _ {mid : Arena} {a : ℕ} (h : Ends old mid (run_in old node.left) (Ok a)) where
     pub right_child_in : (ready : Bool) → Prepared ready (tree_in old node.index) →
         (weight (tree_in mid node.right) < weight (tree_in old node.index)) × (node.right < mid.count) × Ready ready (tree_in mid node.right)
-    right_child_in ready p =
-        (
-          right_lighter old.live node.index at.0 node.op node.size node.left node.right at.1 mid.words.now a mid.count h.ended,
-          (right_child old.live node.index at.0 node.op node.size node.left node.right at.1 mid.words.now a mid.count h.ended).1,
-          right_child_ready old.live node.index at.0 node.op node.size node.left node.right at.1 mid.words.now a mid.count h.ended ready p,
-        )
+    right_child_in ready p = (
+      right_lighter old.live node.index at.0 node.op node.size node.left node.right at.1 mid.words.now a mid.count h.ended,
+      (right_child old.live node.index at.0 node.op node.size node.left node.right at.1 mid.words.now a mid.count h.ended).1,
+      right_child_ready old.live node.index at.0 node.op node.size node.left node.right at.1 mid.words.now a mid.count h.ended ready p,
+    )
 
     pub right_stops : {late : Arena} {none : NoRoom} → Ends mid late (run_in mid node.right) (Err none) → Ends old late (run_in old node.index) (Err none)
     right_stops {late} g = record {
       same_reference = g.same_reference ∙ h.same_reference;
       ended =
-        right_unfinished old.live node.index at.0 node.op node.size node.left node.right at.1 mid.words.now a mid.count h.ended
-        late.words.now g.ended;
+          right_unfinished old.live node.index at.0 node.op node.size node.left node.right at.1 mid.words.now a mid.count h.ended
+          late.words.now g.ended;
     }
 
     module _ {late : Arena} {b : ℕ} (g : Ends mid late (run_in mid node.right) (Ok b)) where
       pub two_next : (weight (binary node.op node.size (tree_in late a) (tree_in late b)) ≤ weight (tree_in old node.index)) × TwoReadyIn late node a b
-      two_next =
-          (
-            binary_lighter old.live node.index at.0 node.op node.size node.left node.right at.1 mid.words.now a mid.count h.ended
-                late.words.now b late.count g.ended,
-            two_ready old.live node.index at.0 node.op node.size node.left node.right at.1 mid.words.now a mid.count h.ended
-                late.words.now b late.count g.ended,
-          )
+      two_next = (
+        binary_lighter old.live node.index at.0 node.op node.size node.left node.right at.1 mid.words.now a mid.count h.ended
+            late.words.now b late.count g.ended,
+        two_ready old.live node.index at.0 node.op node.size node.left node.right at.1 mid.words.now a mid.count h.ended
+            late.words.now b late.count g.ended,
+      )
 
       pub two_ends : {new : Arena} {root : Result ℕ NoRoom} → Ends late new (after_two_in late node a b) root → Ends old new (run_in old node.index) root
       two_ends {new} {root} r = record {
         same_reference = r.same_reference ∙ g.same_reference ∙ h.same_reference;
         ended =
-          binary_ended old.live node.index at.0 node.op node.size node.left node.right at.1 mid.words.now a mid.count h.ended
-          late.words.now b late.count g.ended new.words.now (step_of new.count root) (is_top (tree_in late a) || is_top (tree_in late b)) refl r.ended;
+            binary_ended old.live node.index at.0 node.op node.size node.left node.right at.1 mid.words.now a mid.count h.ended
+            late.words.now b late.count g.ended new.words.now (step_of new.count root) (is_top (tree_in late a) || is_top (tree_in late b)) refl r.ended;
       }
 
 -- A RULE: what it rebuilds is simplified again
@@ -139,8 +136,7 @@ module _ {old : Arena} {node : One} {a : ℕ} (ready : OneReadyIn old node a) (t
   module _ {root : ℕ} (h : OneRuns old mid node a (Ok (Outcome.Again root))) where
     pub one_rebuilt : (weight (tree_in mid root) < weight (unary node.op node.size (tree_in old a))) × (root < mid.count) × Prepared true (tree_in mid root)
     one_rebuilt =
-        let at = one_at ready topless in
-        (
+        let at = one_at ready topless in (
           one_again_falls old.live at mid.words.now root mid.count h.ran,
           h.ran.1.ran.root_below,
           one_again_over_normal old.live at mid.words.now root mid.count h.ran,
@@ -150,8 +146,8 @@ module _ {old : Arena} {node : One} {a : ℕ} (ready : OneReadyIn old node a) (t
     one_again_ends {new} {end} g = record {
       same_reference = g.same_reference ∙ h.same_reference;
       ended =
-        rw topless
-        (one_again_ended old.live (one_at ready topless) mid.words.now new.words.now root mid.count (step_of new.count end) h.ran g.ended);
+          rw topless
+          (one_again_ended old.live (one_at ready topless) mid.words.now new.words.now root mid.count (step_of new.count end) h.ran g.ended);
     }
 
 module _ {old : Arena} {node : Two} {a b : ℕ} (ready : TwoReadyIn old node a b) (topless : (is_top (tree_in old a) || is_top (tree_in old b)) ≡ false) {mid : Arena} where
@@ -164,8 +160,7 @@ module _ {old : Arena} {node : Two} {a b : ℕ} (ready : TwoReadyIn old node a b
   module _ {root : ℕ} (h : TwoRuns old mid node a b (Ok (Outcome.Again root))) where
     pub two_rebuilt : (weight (tree_in mid root) < weight (binary node.op node.size (tree_in old a) (tree_in old b))) × (root < mid.count) × Prepared true (tree_in mid root)
     two_rebuilt =
-        let at = two_at ready (or_left _ _ topless) (or_right _ _ topless) in
-        (
+        let at = two_at ready (or_left _ _ topless) (or_right _ _ topless) in (
           two_again_falls old.live at mid.words.now root mid.count h.ran,
           h.ran.1.ran.root_below,
           two_again_over_normal old.live at mid.words.now root mid.count h.ran,
@@ -175,6 +170,6 @@ module _ {old : Arena} {node : Two} {a b : ℕ} (ready : TwoReadyIn old node a b
     two_again_ends {new} {end} g = record {
       same_reference = g.same_reference ∙ h.same_reference;
       ended =
-        rw topless
-        (two_again_ended old.live (two_at ready (or_left _ _ topless) (or_right _ _ topless)) mid.words.now new.words.now root mid.count (step_of new.count end) h.ran g.ended);
+          rw topless
+          (two_again_ended old.live (two_at ready (or_left _ _ topless) (or_right _ _ topless)) mid.words.now new.words.now root mid.count (step_of new.count end) h.ran g.ended);
     }

@@ -58,7 +58,16 @@ pub fn one_rule(arena: &mut Arena<'_>, node: One, a: usize) -> Result<Outcome, N
 {
     let act = decide::un_act(arena.nodes(), node.op, node.size, a);
     let kept = a == node.left;
-    let root = settle(arena, node.index, act, kept, Op::One(node.op), node.size, a, a)?;
+    let root = settle(
+        arena,
+        node.index,
+        act,
+        kept,
+        Op::One(node.op),
+        node.size,
+        a,
+        a,
+    )?;
     Ok(outcome_of(redoes(act), root))
 }
 
@@ -69,6 +78,15 @@ pub fn two_rule(arena: &mut Arena<'_>, node: Two, a: usize, b: usize) -> Result<
 {
     let act = decide::bin_act(arena.nodes(), node.op, node.size, a, b);
     let kept = (a == node.left) & (b == node.right);
-    let root = settle(arena, node.index, act, kept, Op::Two(node.op), node.size, a, b)?;
+    let root = settle(
+        arena,
+        node.index,
+        act,
+        kept,
+        Op::Two(node.op),
+        node.size,
+        a,
+        b,
+    )?;
     Ok(outcome_of(redoes(act), root))
 }

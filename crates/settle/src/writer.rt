@@ -56,12 +56,8 @@ pub fn settle(
     ensures { Ends arena.old arena.new (settled act kept i op size (nodes_of arena.old.count arena.old.words.now) a b) result }
 {
     match act {
-        Act::Keep => {
-            if kept {
-                return Ok(i);
-            }
-            arena.push(op.over(size, a, b))
-        }
+        Act::Keep if kept => Ok(i),
+        Act::Keep => arena.push(op.over(size, a, b)),
         Act::Swap => arena.push(op.over(size, b, a)),
         Act::Give(which) => Ok(arena.nodes().near(which, a, b)),
         Act::Make(v) => push_const(arena, size, v),

@@ -1,8 +1,8 @@
 -- Each call of the cycle ends as the run's definition says, and calls only what is lighter. Assumes nothing.
-use Rattle.std.proofs.Common.{refl, sym, ◌∙◌, arith}
+use Rattle.std.proofs.Common.{sym, ◌∙◌, arith}
 use Rattle.std.proofs.lemmas.Result.{err_from_is_err_and}
 use Rattle.format.specs.Truth.{or_left, or_right}
-use Rattle.run.proofs.Visits.{leaf_ends, child_ends, one_child, one_stops, one_next, one_ends, left_child, left_stops, right_child_in, right_stops, two_next, two_ends, one_rule_stops, one_rule_ends, one_rebuilt, one_again_ends, two_rule_stops, two_rule_ends, two_rebuilt, two_again_ends}
+use Rattle.run.proofs.Visits.{leaf_ends, child_ends, one_child, one_stops, one_next, one_ends, left_child, left_stops, right_child_in, right_stops, two_next, two_ends, one_rebuilt, one_again_ends, two_rebuilt, two_again_ends}
 use Rattle.run.specs.Ready.{one_at, two_at}
 use Rattle.run.proofs.+visits.Goals as goal
 
@@ -91,6 +91,6 @@ rule::after_two-visit-requires t c =
     (omega (arith, rebuilt.0), (rebuilt.1, rebuilt.2))
 
 pub rule::after_two-returns-in-Again : goal.rule::after_two-returns-in-Again
-rule::after_two-returns-in-Again t c = 
+rule::after_two-returns-in-Again t c =
     let topless = rw (c.is_top.ensures, c.is_top-2.ensures) at c.if-is_top.false in
     two_again_ends c.requires topless (rw c.in-Again.is at c.in_ok-root.ensures) c.visit.ensures
