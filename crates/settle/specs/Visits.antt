@@ -19,7 +19,6 @@ use Rattle.settle.specs.Settled.{settled}
 use Rattle.settle.specs.declared.rule.One.{One}
 use Rattle.settle.specs.declared.rule.Outcome.{Outcome}
 use Rattle.settle.specs.declared.rule.Two.{Two}
-use Rattle.settle.specs.declared.writer.Op.{Op}
 use Rattle.theory.specs.Normal.{Normal}
 use Rattle.theory.specs.Visits.{redoes, carried, OverNormal}
 use Rattle.tree.specs.Arena.{node_at, nodes_of}
@@ -174,14 +173,14 @@ module _ {words : List ℕ} {count : ℕ} (live : Live words count) where
 
 pub one_runs : {old new : Arena} {node : One} {a : ℕ} → OneIn old node a → (act : Act) (again : Bool) (root : Result ℕ NoRoom) →
     act ≡ un_act node.op node.size (tree_of old.count old.words.now a) → again ≡ redoes act →
-    Ends old new (settled act (eqb a node.left) node.index (Op.One node.op) node.size (nodes_of old.count old.words.now) a a) root →
+    Ends old new (settled act (eqb a node.left) node.index (λ x y. Node.Unary node.op node.size x) node.size (nodes_of old.count old.words.now) a a) root →
     OneRuns old new node a (outcome_as again root)
 one_runs {old} {new} {node} {a} at act again root p q h =
     record { same_reference = h.same_reference; ran = one_ran old.live at new.words.now new.count act again (eqb a node.left) root p q refl h.ended }
 
 pub two_runs : {old new : Arena} {node : Two} {a b : ℕ} → TwoIn old node a b → (act : Act) (again : Bool) (root : Result ℕ NoRoom) →
     act ≡ bin_act node.op node.size (tree_of old.count old.words.now a) (tree_of old.count old.words.now b) → again ≡ redoes act →
-    Ends old new (settled act (eqb a node.left && eqb b node.right) node.index (Op.Two node.op) node.size (nodes_of old.count old.words.now) a b) root →
+    Ends old new (settled act (eqb a node.left && eqb b node.right) node.index (Node.Binary node.op node.size) node.size (nodes_of old.count old.words.now) a b) root →
     TwoRuns old new node a b (outcome_as again root)
 two_runs {old} {new} {node} {a} {b} at act again root p q h =
     record {

@@ -3,7 +3,7 @@ ghost use Rattle.std.specs.Prelude.{◌≡◌};
 ghost use Rattle.theory.specs.Visits.{redoes as redoes_act};
 ghost use Rattle.settle.specs.Visits.{OneIn, TwoIn, OneRuns, TwoRuns, outcome_of};
 
-use crate::writer::{Op, settle};
+use crate::writer::settle;
 use acts::decide;
 use arena::{Arena, NoRoom};
 use format::{Bin, Un};
@@ -58,16 +58,7 @@ pub fn one_rule(arena: &mut Arena<'_>, node: One, a: usize) -> Result<Outcome, N
 {
     let act = decide::un_act(arena.nodes(), node.op, node.size, a);
     let kept = a == node.left;
-    let root = settle(
-        arena,
-        node.index,
-        act,
-        kept,
-        Op::One(node.op),
-        node.size,
-        a,
-        a,
-    )?;
+    let root = settle(arena, node.index, act, kept, node.op, node.size, a, a)?;
     Ok(outcome_of(redoes(act), root))
 }
 
@@ -78,15 +69,6 @@ pub fn two_rule(arena: &mut Arena<'_>, node: Two, a: usize, b: usize) -> Result<
 {
     let act = decide::bin_act(arena.nodes(), node.op, node.size, a, b);
     let kept = (a == node.left) & (b == node.right);
-    let root = settle(
-        arena,
-        node.index,
-        act,
-        kept,
-        Op::Two(node.op),
-        node.size,
-        a,
-        b,
-    )?;
+    let root = settle(arena, node.index, act, kept, node.op, node.size, a, b)?;
     Ok(outcome_of(redoes(act), root))
 }

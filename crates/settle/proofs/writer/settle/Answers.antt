@@ -4,7 +4,7 @@ use Rattle.settle.specs.Chains.{redo_ended}
 use Rattle.settle.proofs.writer.settle.Goals as goal
 
 pub returns-in_ok-right-in-Redo : goal.returns-in_ok-right-in-Redo
-returns-in_ok-right-in-Redo c =
+returns-in_ok-right-in-Redo g c =
     let left = rw (c.nodes-in-Redo.ensures.words, c.nodes-in-Redo.ensures.count) at c.near-left.ensures.0 in
     record {
       same_reference = c.push-in-Redo.ensures.same_reference ∙ c.in_ok-right-in-Redo.ensures.same_reference;
