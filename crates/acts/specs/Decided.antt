@@ -1,8 +1,8 @@
 -- A rule's decision by what the code has read of the children, and why the operands of a fold fit. Assumes nothing.
-use Rattle.std.specs.Prelude.{Bool, true, false, cond, List, ◌≡◌, refl, ℕ, ◌*◌, None, Option, Some}
-use Rattle.std.proofs.Common.{ap, sym, ◌∙◌, arith, pow_pos}
+use Rattle.std.specs.Prelude.{List, ◌≡◌, ℕ, ◌*◌, None, Option, Some}
+use Rattle.std.proofs.Common.{ap, sym, ◌∙◌, pow_pos, true}
 use Rattle.acts.specs.Operated.{UnaryOver, BinaryOver, ViewFits}
-use Rattle.acts.specs.Views.{view_constant, view_constant_lem}
+use Rattle.acts.specs.Views.{view_constant_lem}
 use Rattle.arena.specs.Live.{Live, tree_of}
 use Rattle.arith.specs.Operands.{Size}
 use Rattle.format.specs.Header.{size_of}
@@ -11,9 +11,9 @@ use Rattle.format.specs.Truth.{or_neither}
 use Rattle.format.specs.declared.Bin.{Bin}
 use Rattle.format.specs.declared.Sizing.{Sizing}
 use Rattle.format.specs.declared.Un.{Un}
-use Rattle.rules.specs.Rules.{constant_of, view, constants, decided, bin_act}
+use Rattle.rules.specs.Rules.{constant_of, view, decided, bin_act}
+use Rattle.rules.specs.Seen.{view_constant}
 use Rattle.rules.specs.declared.Act.{Act}
-use Rattle.rules.specs.declared.Constants.{Constants}
 use Rattle.rules.specs.declared.View.{View}
 use Rattle.theory.proofs.Seen.{constant_shows}
 use Rattle.theory.specs.Sizes.{size_bounds, un_is_size, bin_is_size, free_is_top}
@@ -24,24 +24,18 @@ use Rattle.tree.specs.Tree.{Tree, binary, size, same}
 use Rattle.values.specs.Operands.{Fitting}
 use Rattle.values.specs.SizedOperands.{unary_operand, binary_operands}
 
-by_views : (op : Bin) (s : ℕ) (a b : Tree) {x y : View} {z : Constants} → x ≡ view a → y ≡ view b → z ≡ constants (view_constant x) (view_constant y) →
-    decided op s (same a b) x y (size a) z ≡ bin_act op s a b
-by_views op s a b p q e = rw (e, p, q, view_constant_lem a, view_constant_lem b)
+-- a view that was read off a tree shows the tree's constant
+pub seen : (t : Tree) {x : View} {c : Option ℕ} → x ≡ view t → c ≡ view_constant x → constant_of t ≡ c
+seen t p e = sym (view_constant_lem t) ∙ ap view_constant (sym p) ∙ sym e
 
--- the decision of code that has read the views x and y and found the constants w
-pub read_as : (op : Bin) (s : ℕ) (a b : Tree) {x y : View} {z w : Constants} {act : Act} → x ≡ view a → y ≡ view b →
-    z ≡ constants (view_constant x) (view_constant y) → z ≡ w → act ≡ decided op s (same a b) x y (size a) w → act ≡ bin_act op s a b
-read_as op s a b {x} {y} p q e f g = g ∙ ap (decided op s (same a b) x y (size a)) (sym f) ∙ by_views op s a b p q e
+-- the decision of code that has read the views x and y, and the constants u and v that they are
+pub read_as : (op : Bin) (s : ℕ) (a b : Tree) {x y : View} {u v : Option ℕ} {act : Act} → x ≡ view a → y ≡ view b →
+    u ≡ view_constant x → v ≡ view_constant y → act ≡ decided op s (same a b) x y (size a) u v → act ≡ bin_act op s a b
+read_as op s a b p q e f g = rw (seen a p e, seen b q f, ← p, ← q) g
 
 -- a size that passed
 pub is_size_lem : (s : ℕ) → is_size s ≡ true → Size s
 is_size_lem s e = let b = size_bounds s e in record { least = b.0; most = b.1 }
-
-both_constant : (u v : Option ℕ) {m n : ℕ} → constants u v ≡ Constants.Both m n → (u ≡ Some m) × (v ≡ Some n)
-both_constant None None e = let z : ◌≡◌ {A = ℕ} 0 1 = cc in absurd (omega arith)
-both_constant None (Some b) e = let z : ◌≡◌ {A = ℕ} 0 1 = cc in absurd (omega arith)
-both_constant (Some a) None e = let z : ◌≡◌ {A = ℕ} 0 1 = cc in absurd (omega arith)
-both_constant (Some a) (Some b) e = (cc, cc)
 
 -- THE OPERANDS OF A FOLD: constants are values, whatever the assignment
 
@@ -55,23 +49,21 @@ nowhere_fits word payload = pow_pos (8 * size_of word)
 constant_value : (t : Tree) (n : ℕ) → Sized t → constant_of t ≡ Some n → value nowhere t ≡ n
 constant_value t n ok e = (rw e at (constant_shows nowhere t ok)).0
 
+pub un_over_size : {words : List ℕ} {count : ℕ} {op : Un} {s a : ℕ} → UnaryOver words count op s a → Size s
+un_over_size {op = op} {s} o = is_size_lem s (un_is_size op s _ _ o.sized_over)
+
+pub over_size : {words : List ℕ} {count : ℕ} {op : Bin} {s a b : ℕ} → BinaryOver words count op s a b → Size s
+over_size {op = op} {s} o = is_size_lem s (bin_is_size op s _ _ o.sized_over)
+
 module _ {words : List ℕ} {count : ℕ} (live : Live words count) where
-  pub un_over_size : {op : Un} {s a : ℕ} → UnaryOver words count op s a → Size s
-  un_over_size {op} {s} o = is_size_lem s (un_is_size op s _ _ o.sized_over)
-
-  pub over_size : {op : Bin} {s a b : ℕ} → BinaryOver words count op s a b → Size s
-  over_size {op} {s} o = is_size_lem s (bin_is_size op s _ _ o.sized_over)
-
-  pub fold_fitting : {op : Bin} {s a b : ℕ} → BinaryOver words count op s a b → {x y : View} {z : Constants} → x ≡ view (tree_of count words a) →
-      y ≡ view (tree_of count words b) → z ≡ constants (view_constant x) (view_constant y) → (m n : ℕ) → z ≡ Constants.Both m n →
+  pub fold_fitting : {op : Bin} {s a b : ℕ} → BinaryOver words count op s a b → {x y : View} → x ≡ view (tree_of count words a) →
+      y ≡ view (tree_of count words b) → (m n : ℕ) → Some m ≡ view_constant x → Some n ≡ view_constant y →
       Fitting (bin_sizing op) s (size (tree_of count words a)) m n
-  fold_fitting {op} {s} {a} {b} o {x} {y} {z} p' q' e m n f =
+  fold_fitting {op} {s} {a} {b} o p q m n e f =
       let t = tree_of count words a in
       let u = tree_of count words b in
-      let both : constants (constant_of t) (constant_of u) ≡ Constants.Both m n = rw (← (view_constant_lem t), ← (view_constant_lem u), ← p', ← q') (sym e ∙ f) in
-      let k = both_constant (constant_of t) (constant_of u) both in
       let whole : Sized (binary op s t u) = (o.sized_over, live.sized a o.left_below, live.sized b o.right_below) in
-      rw (constant_value t m whole.1 k.0, constant_value u n whole.2 k.1) at
+      rw (constant_value t m whole.1 (seen t p e), constant_value u n whole.2 (seen u q f)) at
       (binary_operands nowhere nowhere_fits op s t u whole (or_neither _ _ o.left_topless o.right_topless))
 
   -- THE OPERAND OF A RULE OF ONE CHILD
@@ -95,8 +87,3 @@ module _ {words : List ℕ} {count : ℕ} (live : Live words count) where
   neg_fits {s} {a} o v e =
       let same_size = (child_allowed Sizing.Same s (tree_of count words a) (free_is_top (tree_of count words a) o.topless) o.sized_over).0 in
       rw same_size at (view_fits o v e)
-
--- a kind that does nothing with equal trees need not compare them
-pub keep_either : (alike : Bool) → Act.Keep ≡ cond alike Act.Keep Act.Keep
-keep_either true = refl
-keep_either false = refl

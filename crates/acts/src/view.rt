@@ -1,42 +1,29 @@
 // What a rule sees of its children.
-ghost use Rattle.std.specs.Prelude.{◌≡◌, ◌+◌, ◌*◌, ◌<◌, length};
-ghost use Rattle.std.proofs.Math.Option.{some};
-ghost use Rattle.format.specs.Limits.{node_words};
-ghost use Rattle.tree.specs.Arena.{node_at};
-ghost use Rattle.rules.specs.Rules.{view, bin_view, un_view, constants};
-ghost use Rattle.arena.specs.Live.{Live, tree_of};
-ghost use Rattle.acts.specs.Views.{node_constant, view_constant};
+ghost use Rattle.std.specs.Prelude.{◌≡◌, ◌<◌};
+ghost use Rattle.rules.specs.Rules.{constant_of, view, bin_view, un_view};
+ghost use Rattle.arena.specs.Live.{tree_of};
 
+use arena::Nodes;
 use format::{Bin, Node, Un};
-use rules::{Constants, View};
+use rules::View;
 
-fn plus_or_minus(op: Bin, a: u64) -> View
-    ensures { result ≡ bin_view op (some a) }
+// The constant that node i is, if it is one: by its kind, before the rest of it is read.
+fn constant_at(nodes: Nodes<'_>, i: usize) -> Option<u64>
+    requires { i < nodes.count }
+    ensures { result ≡ constant_of (tree_of nodes.entry.count nodes.entry.words.now i) }
 {
-    match op {
-        Bin::Add => View::Plus(a),
-        Bin::Sub => View::Minus(a),
-        Bin::Mul => View::Other,
-        Bin::Xor => View::Other,
-        Bin::Or => View::Other,
-        Bin::IntLeftShift => View::Other,
-        Bin::IntRightShift => View::Other,
-        Bin::IntSignedRightShift => View::Other,
-        Bin::IntCarry => View::Other,
-        Bin::IntSCarry => View::Other,
-        Bin::IntSBorrow => View::Other,
-    }
+    if nodes.is_const(i) { Some(nodes.payload(i)) } else { None }
 }
 
-// What an operator shows beside its right child, node `right`.
-fn bin_view(words: &[u64], op: Bin, right: usize) -> View
-    requires { node_words * right + 1 < length words.now }
-    ensures { result ≡ bin_view op (node_constant (node_at words.now right)) }
+// What an operator shows beside the constant that its right child is, if it is one.
+fn bin_view(op: Bin, right: Option<u64>) -> View
+    ensures { result ≡ bin_view op right }
 {
-    if arena::is_const(words, right) {
-        return plus_or_minus(op, arena::payload_at(words, right));
+    match (op, right) {
+        (Bin::Add, Some(a)) => View::Plus(a),
+        (Bin::Sub, Some(a)) => View::Minus(a),
+        _ => View::Other,
     }
-    View::Other
 }
 
 fn un_view(op: Un, size: u64) -> View
@@ -48,32 +35,15 @@ fn un_view(op: Un, size: u64) -> View
     }
 }
 
-pub fn view_at(words: &[u64], count: usize, i: usize) -> View
-    requires live { Live words.now count }
-    requires i_lt_count { i < count }
-    ensures { result ≡ view (tree_of count words.now i) }
+#[tactic(auto, using(crate::specs::Views::view_of_node))]
+pub fn view_at(nodes: Nodes<'_>, i: usize) -> View
+    requires { i < nodes.count }
+    ensures { result ≡ view (tree_of nodes.entry.count nodes.entry.words.now i) }
 {
-    match arena::node_at(words, i) {
-        Node::Top => View::Other,
-        Node::Entry(_, _, _) => View::Other,
+    match nodes.node(i) {
         Node::Const(_, value) => View::Constant(value),
-        Node::Bind(_, _) => View::Other,
         Node::Unary(op, size, _) => un_view(op, size),
-        Node::Binary(op, _, _, right) => bin_view(words, op, right),
+        Node::Binary(op, _, _, right) => bin_view(op, constant_at(nodes, right)),
+        _ => View::Other,
     }
-}
-
-pub fn constants_of(a: View, b: View) -> Constants
-    ensures { result ≡ constants (view_constant a) (view_constant b) }
-{
-    if let View::Constant(m) = a {
-        if let View::Constant(n) = b {
-            return Constants::Both(m, n);
-        }
-        return Constants::Left(m);
-    }
-    if let View::Constant(n) = b {
-        return Constants::Right(n);
-    }
-    Constants::Neither
 }

@@ -5,12 +5,12 @@ use Rattle.acts.proofs.decide.un_act.Goals as goal
 
 pub sext_act-requires : goal.sext_act-requires
 sext_act-requires c =
-    rw (c.size_of.ensures, c.node_at.ensures, ← (size_at c.requires.live c.args.a c.requires.unary_over.below))
-    (sext_fits c.requires.live (rw c.in-SignExtend.is at c.requires.unary_over) c.view_at-view.result c.view_at-view.ensures)
+    rw (c.size.ensures, c.node.ensures, ← (size_at c.args.nodes.live c.args.a c.requires.below))
+    (sext_fits c.args.nodes.live (rw c.in-SignExtend.is at c.requires) c.view_at-view.result c.view_at-view.ensures)
 
 pub neg_act-requires : goal.neg_act-requires
-neg_act-requires c = neg_fits c.requires.live (rw c.in-Int2Comp.is at c.requires.unary_over) c.view_at-view.result c.view_at-view.ensures
+neg_act-requires c = neg_fits c.args.nodes.live (rw c.in-Int2Comp.is at c.requires) c.view_at-view.result c.view_at-view.ensures
 
 pub returns-in-SignExtend : goal.returns-in-SignExtend
 returns-in-SignExtend c =
-    rw (c.in-SignExtend.is, size_at c.requires.live c.args.a c.requires.unary_over.below, ← c.node_at.ensures, ← c.size_of.ensures, ← c.view_at-view.ensures) c.sext_act.ensures
+    rw (c.in-SignExtend.is, size_at c.args.nodes.live c.args.a c.requires.below, ← c.node.ensures, ← c.size.ensures, ← c.view_at-view.ensures) c.sext_act.ensures
