@@ -12,7 +12,6 @@ use Rattle.format.specs.declared.Shape.{Shape}
 use Rattle.format.specs.declared.Un.{Un}
 use Rattle.rules.specs.Rules.{constant_of, bin_view, un_view, view}
 use Rattle.rules.specs.Seen.{view_constant}
-use Rattle.rules.specs.declared.View.{View}
 use Rattle.tree.specs.Arena.{node_at, build}
 use Rattle.tree.specs.Tree.{Tree, top, entry, const, bind, unary, binary}
 

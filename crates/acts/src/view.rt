@@ -8,6 +8,7 @@ use format::{Bin, Node, Un};
 use rules::View;
 
 // The constant that node i is, if it is one: by its kind, before the rest of it is read.
+#[tactic(auto, using(crate::specs::Views::constant_at))]
 fn constant_at(nodes: Nodes<'_>, i: usize) -> Option<u64>
     requires { i < nodes.count }
     ensures { result ≡ constant_of (tree_of nodes.entry.count nodes.entry.words.now i) }
