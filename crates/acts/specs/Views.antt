@@ -1,6 +1,6 @@
 -- What nodes and views show of a constant. Assumes nothing.
 use Rattle.std.specs.Prelude.{cond, List, ◌≡◌, refl, ℕ, ◌<◌, None, Option, Some}
-use Rattle.std.proofs.Common.{ap, ◌∙◌}
+use Rattle.std.proofs.Common.{ap, arith, ◌∙◌}
 use Rattle.arena.specs.Live.{Live, tree_of, node_is_const}
 use Rattle.arena.specs.LiveLaws.{tree_of_node}
 use Rattle.format.specs.Header.{kind_of}
@@ -39,19 +39,7 @@ un_view_constant Un.SignExtend s = refl
 un_view_constant Un.Int2Comp s = refl
 
 bin_view_constant : (op : Bin) (c : Option ℕ) → view_constant (bin_view op c) ≡ None
-bin_view_constant Bin.Add None = refl
-bin_view_constant Bin.Add (Some a) = refl
-bin_view_constant Bin.Sub None = refl
-bin_view_constant Bin.Sub (Some a) = refl
-bin_view_constant Bin.Mul c = refl
-bin_view_constant Bin.Xor c = refl
-bin_view_constant Bin.Or c = refl
-bin_view_constant Bin.IntLeftShift c = refl
-bin_view_constant Bin.IntRightShift c = refl
-bin_view_constant Bin.IntSignedRightShift c = refl
-bin_view_constant Bin.IntCarry c = refl
-bin_view_constant Bin.IntSCarry c = refl
-bin_view_constant Bin.IntSBorrow c = refl
+bin_view_constant op c = grind arith
 
 pub view_constant_lem : (t : Tree) → view_constant (view t) ≡ constant_of t
 view_constant_lem top = refl

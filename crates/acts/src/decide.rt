@@ -47,7 +47,7 @@ fn equal_act(nodes: Nodes<'_>, op: Bin, a: usize, b: usize) -> Act
     if equal::same(nodes, a, b) { act } else { Act::Keep }
 }
 
-#[tactic(auto, using(crate::specs::Views::view_constant_lem, arena::specs::LiveLaws::size_at))]
+#[tactic(auto, using(crate::specs::Views::view_constant_lem, arena::specs::LiveLaws::size_at, crate::specs::Decided::over_size))]
 pub fn bin_act(nodes: Nodes<'_>, op: Bin, size: u64, a: usize, b: usize) -> Act
     requires { BinaryOver nodes.words.now nodes.count op size a b }
     ensures { result ≡ bin_act op size (tree_of nodes.entry.count nodes.entry.words.now a) (tree_of nodes.entry.count nodes.entry.words.now b) }
@@ -56,12 +56,8 @@ pub fn bin_act(nodes: Nodes<'_>, op: Bin, size: u64, a: usize, b: usize) -> Act
     let right = view_at(nodes, b);
     match (left.constant(), right.constant()) {
         (None, None) => equal_act(nodes, op, a, b),
-        (Some(m), None) => {
-            if swaps(op) {
-                return beside_act(beside(op, size, right, m), true);
-            }
-            Act::Keep
-        }
+        (Some(m), None) if swaps(op) => beside_act(beside(op, size, right, m), true),
+        (Some(_), None) => Act::Keep,
         (None, Some(n)) => beside_act(beside(op, size, left, n), false),
         (Some(m), Some(n)) => Act::Make(values::bin_value(op, size, nodes.node(a).size(), m, n)),
     }

@@ -11,8 +11,5 @@ pub fn xor_shift_beside(n: u64) -> Beside
     ensures shift { result ≡ shift_beside n }
 {
     // (e ^ #0) -> e, (e shifted by #0) -> e
-    if n == 0 {
-        return Beside::Itself;
-    }
-    Beside::Stay
+    if n == 0 { Beside::Itself } else { Beside::Stay }
 }

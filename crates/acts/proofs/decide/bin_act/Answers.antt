@@ -4,12 +4,6 @@ use Rattle.acts.specs.Decided.{over_size, fold_fitting}
 use Rattle.arena.specs.LiveLaws.{size_at}
 use Rattle.acts.proofs.decide.bin_act.Goals as goal
 
-pub beside-requires : goal.beside-requires
-beside-requires c = over_size c.requires
-
-pub beside-requires-then-swaps : goal.beside-requires-then-swaps
-beside-requires-then-swaps c = over_size c.requires
-
 pub bin_value-requires : goal.bin_value-requires
 bin_value-requires c =
     rw (c.size.ensures, c.node.ensures, ← (size_at c.args.nodes.live c.args.a c.requires.left_below))
