@@ -50,14 +50,14 @@ pub over_size : {words : List ℕ} {count : ℕ} {op : Bin} {s a b : ℕ} → Bi
 over_size {op = op} {s} o = is_size_lem s (bin_is_size op s _ _ o.sized_over)
 
 module _ {words : List ℕ} {count : ℕ} (live : Live words count) where
-  pub fold_fitting : {op : Bin} {s a b : ℕ} → BinaryOver words count op s a b → {x y : View} → x ≡ view (tree_of count words a) →
-      y ≡ view (tree_of count words b) → (m n : ℕ) → Some m ≡ view_constant x → Some n ≡ view_constant y →
-      Fitting (bin_sizing op) s (size (tree_of count words a)) m n
-  fold_fitting {op} {s} {a} {b} o p q m n e f =
+  pub fold_fitting : {op : Bin} {s a b m n : ℕ} {x y : View} {u v : Option ℕ} → BinaryOver words count op s a b →
+      x ≡ view (tree_of count words a) → y ≡ view (tree_of count words b) → u ≡ view_constant x → v ≡ view_constant y →
+      u ≡ Some m → v ≡ Some n → Fitting (bin_sizing op) s (size (tree_of count words a)) m n
+  fold_fitting {op} {s} {a} {b} {m} {n} o p q e f g h =
       let t = tree_of count words a in
       let u = tree_of count words b in
       let whole : Sized (binary op s t u) = (o.sized_over, live.sized a o.left_below, live.sized b o.right_below) in
-      rw (constant_value t m whole.1 (seen t p e), constant_value u n whole.2 (seen u q f)) at
+      rw (constant_value t m whole.1 (seen t p e ∙ g), constant_value u n whole.2 (seen u q f ∙ h)) at
       (binary_operands nowhere nowhere_fits op s t u whole (or_neither _ _ o.left_topless o.right_topless))
 
   -- THE OPERAND OF A RULE OF ONE CHILD
@@ -77,5 +77,5 @@ module _ {words : List ℕ} {count : ℕ} (live : Live words count) where
   pub neg_fits : {s a : ℕ} → UnaryOver words count Un.Int2Comp s a → (v : View) → v ≡ view (tree_of count words a) → ViewFits s s v
   unfolding row_of
   neg_fits {s} {a} o v e =
-      let same_size = (child_allowed Sizing.Same s (tree_of count words a) (free_is_top (tree_of count words a) o.topless) o.sized_over).0 in
-      rw same_size at (view_fits o v e)
+      let t = tree_of count words a in
+      rw (child_allowed Sizing.Same s t (free_is_top t o.topless) o.sized_over).0 at (view_fits o v e)

@@ -1,5 +1,5 @@
 -- What nodes and views show of a constant. Assumes nothing.
-use Rattle.std.specs.Prelude.{cond, List, ◌≡◌, refl, ℕ, ◌<◌, None, Option, Some}
+use Rattle.std.specs.Prelude.{cond, List, ◌≡◌, refl, ℕ, ◌<◌, None, Some}
 use Rattle.std.proofs.Common.{ap, arith, ◌∙◌}
 use Rattle.arena.specs.Live.{Live, tree_of, node_is_const}
 use Rattle.arena.specs.LiveLaws.{tree_of_node}
@@ -7,24 +7,17 @@ use Rattle.format.specs.Header.{kind_of}
 use Rattle.format.specs.Kinds.{shape_of}
 use Rattle.format.specs.Limits.{header_at, payload_at}
 use Rattle.format.specs.Nodes.{node_of, shaped}
-use Rattle.format.specs.declared.Bin.{Bin}
 use Rattle.format.specs.declared.Shape.{Shape}
-use Rattle.format.specs.declared.Un.{Un}
-use Rattle.rules.specs.Rules.{constant_of, bin_view, un_view, view}
+use Rattle.rules.specs.Rules.{constant_of, view}
 use Rattle.rules.specs.Seen.{view_constant}
 use Rattle.tree.specs.Arena.{node_at, build}
-use Rattle.tree.specs.Tree.{Tree, top, entry, const, bind, unary, binary}
+use Rattle.tree.specs.Tree.{Tree}
 
 -- the tree of a node that is a constant shows its payload, and another one nothing
 module _ (tree : ℕ → Tree) (word payload : ℕ) where
   constant_of_shape : (shape : Shape) →
       constant_of (build tree (shaped shape word payload)) ≡ cond (node_is_const (shaped shape word payload)) (Some payload) None
-  constant_of_shape Shape.Top = refl
-  constant_of_shape Shape.Entry = refl
-  constant_of_shape Shape.Const = refl
-  constant_of_shape Shape.Bind = refl
-  constant_of_shape (Shape.Unary op) = refl
-  constant_of_shape (Shape.Binary op) = refl
+  constant_of_shape shape = grind arith
 
 pub constant_at : {words : List ℕ} {count : ℕ} → Live words count → (i : ℕ) → i < count →
     constant_of (tree_of count words i) ≡ cond (node_is_const (node_at words i)) (Some (payload_at words i)) None
@@ -34,20 +27,8 @@ constant_at {words} {count} l i h =
     ∙ constant_of_shape (tree_of count words) (header_at words i) (payload_at words i) (shape_of (kind_of (header_at words i)))
 
 -- a tree's constant is its view's
-un_view_constant : (op : Un) (s : ℕ) → view_constant (un_view op s) ≡ None
-un_view_constant Un.SignExtend s = refl
-un_view_constant Un.Int2Comp s = refl
-
-bin_view_constant : (op : Bin) (c : Option ℕ) → view_constant (bin_view op c) ≡ None
-bin_view_constant op c = grind arith
-
 pub view_constant_lem : (t : Tree) → view_constant (view t) ≡ constant_of t
-view_constant_lem top = refl
-view_constant_lem (entry s sp o) = refl
-view_constant_lem (const s v) = refl
-view_constant_lem (bind s d) = refl
-view_constant_lem (unary op s a) = un_view_constant op s
-view_constant_lem (binary op s a b) = bin_view_constant op (constant_of b)
+view_constant_lem t = grind arith
 
 -- the view of a live node
 pub view_of_node : {words : List ℕ} {count : ℕ} → Live words count → (i : ℕ) → i < count →

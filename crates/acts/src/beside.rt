@@ -1,5 +1,6 @@
-// What a rule of two children says beside folding: whether it swaps, what it does beside a constant and with equal trees. IntCarry,
-// IntSCarry and IntSBorrow have no file of their own: two constants fold (decide.rt), and the rest of what they do is here.
+// What a rule of two children says beside folding: whether it swaps, what it does beside a constant and with equal trees.
+// IntCarry, IntSCarry and IntSBorrow have no file of their own: two constants fold (decide.rt), and equal trees under IntSBorrow give 0
+// (`equals`). Beside a constant (`beside`), they stay.
 ghost use Rattle.std.specs.Prelude.{◌≡◌};
 ghost use Rattle.arith.specs.Operands.{Size};
 ghost use Rattle.manual.specs.Operations.{int_sub};
@@ -35,7 +36,8 @@ pub fn beside(op: Bin, size: u64, e: View, n: u64) -> Beside
         Bin::Sub => sub_beside(e, n),
         Bin::Mul => mul_beside(n),
         Bin::Or => or_beside(size, n),
-        Bin::Xor | Bin::IntLeftShift | Bin::IntRightShift | Bin::IntSignedRightShift => xor_shift_beside(n),
+        Bin::Xor | Bin::IntLeftShift | Bin::IntRightShift | Bin::IntSignedRightShift =>
+            xor_shift_beside(n),
         Bin::IntCarry | Bin::IntSCarry | Bin::IntSBorrow => Beside::Stay,
     }
 }

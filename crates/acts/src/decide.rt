@@ -34,23 +34,26 @@ fn beside_act(beside: Beside, right: bool) -> Act
 // Trees are compared only for a kind that looks for equal ones.
 fn equal_act(nodes: Nodes<'_>, op: Bin, a: usize, b: usize) -> Act
     requires { (a < nodes.count) × (b < nodes.count) }
-    ensures {
-        result ≡ cond (same (tree_of nodes.entry.count nodes.entry.words.now a) (tree_of nodes.entry.count nodes.entry.words.now b))
-        (on_equal (rule_of op).equal) Act.Keep
-    }
+    ensures { result ≡ cond (same (tree_of nodes.entry.count nodes.entry.words.now a) (tree_of nodes.entry.count nodes.entry.words.now b))
+        (on_equal (rule_of op).equal) Act.Keep }
 {
     let act = match equals(op) {
         Equals::Stay => return Act::Keep,
         Equals::Zero => Act::Make(0),
         Equals::Left => Act::Give(Near::Left),
     };
-    if equal::same(nodes, a, b) { act } else { Act::Keep }
+    if equal::same(nodes, a, b) {
+        act
+    } else {
+        Act::Keep
+    }
 }
 
 #[tactic(auto, using(crate::specs::Views::view_constant_lem, arena::specs::LiveLaws::size_at, crate::specs::Decided::over_size))]
 pub fn bin_act(nodes: Nodes<'_>, op: Bin, size: u64, a: usize, b: usize) -> Act
     requires { BinaryOver nodes.words.now nodes.count op size a b }
-    ensures { result ≡ bin_act op size (tree_of nodes.entry.count nodes.entry.words.now a) (tree_of nodes.entry.count nodes.entry.words.now b) }
+    ensures { result ≡ bin_act op size (tree_of nodes.entry.count nodes.entry.words.now a)
+        (tree_of nodes.entry.count nodes.entry.words.now b) }
 {
     let left = view_at(nodes, a);
     let right = view_at(nodes, b);

@@ -13,7 +13,11 @@ fn constant_at(nodes: Nodes<'_>, i: usize) -> Option<u64>
     requires { i < nodes.count }
     ensures { result ≡ constant_of (tree_of nodes.entry.count nodes.entry.words.now i) }
 {
-    if nodes.is_const(i) { Some(nodes.payload(i)) } else { None }
+    if nodes.is_const(i) {
+        Some(nodes.payload(i))
+    } else {
+        None
+    }
 }
 
 // What an operator shows beside the constant that its right child is, if it is one.
