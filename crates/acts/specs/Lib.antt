@@ -1,4 +1,3 @@
 pub mod Views
 pub mod Operated
-pub mod Moved
 pub mod Decided

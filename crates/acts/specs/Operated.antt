@@ -1,10 +1,11 @@
 -- What a rule may rely on: the children of the node that it looks at lie in the arena, no Top is reached from them, and the node over
 -- them is well sized. Assumes nothing.
-use Rattle.std.specs.Prelude.{false, true, List, ◌≡◌, ℕ, ◌<◌, None, Option, Some}
+use Rattle.std.specs.Prelude.{false, true, List, ◌≡◌, ℕ, ◌<◌, None, MatchOption}
 use Rattle.arena.specs.Live.{tree_of}
 use Rattle.arith.specs.Operands.{Extension}
 use Rattle.format.specs.declared.Bin.{Bin}
 use Rattle.format.specs.declared.Un.{Un}
+use Rattle.rules.specs.Seen.{view_constant}
 use Rattle.rules.specs.declared.View.{View}
 use Rattle.tree.specs.Form.{sized, un_sizing, bin_sizing, size_seen}
 use Rattle.tree.specs.Tree.{has_top}
@@ -23,9 +24,4 @@ pub record BinaryOver (words : List ℕ) (count : ℕ) (op : Bin) (size a b : �
 
 -- a constant that is seen is one of `child` bytes, to be one of `size`
 abbrev pub ViewFits : (size child : ℕ) → View → Type 0
-ViewFits size child (View.Constant n) = Extension child size n
-ViewFits size child (View.Plus a) = Unit {0}
-ViewFits size child (View.Minus a) = Unit {0}
-ViewFits size child View.Negation = Unit {0}
-ViewFits size child (View.Extension c) = Unit {0}
-ViewFits size child View.Other = Unit {0}
+ViewFits size child e = MatchOption (view_constant e) (Unit {0}) (λ n. Extension child size n)

@@ -20,9 +20,6 @@ pub fn add_beside(e: View, n: u64) -> Beside
         View::Plus(a) => Beside::RedoInner(Bin::Add, wrapping_add(a, n)),
         // ((e - #a) + #n) -> (e - #(a - n)), or (e + #(n - a)) where a - n is negative
         View::Minus(a) => moved(a, n, Bin::Add, Bin::Sub),
-        View::Constant(_) => Beside::Stay,
-        View::Negation => Beside::Stay,
-        View::Extension(_) => Beside::Stay,
-        View::Other => Beside::Stay,
+        _ => Beside::Stay,
     }
 }

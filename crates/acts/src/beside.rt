@@ -1,16 +1,16 @@
 // What a rule of two children says beside folding: whether it swaps, what it does beside a constant and with equal trees.
+// IntCarry, IntSCarry and IntSBorrow have no file of their own: two constants fold (decide.rt), and equal trees under IntSBorrow give 0
+// (`equals`). Beside a constant (`beside`), they stay.
 ghost use Rattle.std.specs.Prelude.{◌≡◌};
 ghost use Rattle.arith.specs.Operands.{Size};
 ghost use Rattle.manual.specs.Operations.{int_sub};
 ghost use Rattle.rules.specs.Rules.{rule_of, moved as moved_by};
 
 use crate::add::add_beside;
-use crate::flag::flag_beside;
 use crate::mul::mul_beside;
 use crate::or::or_beside;
-use crate::shift::shift_beside;
 use crate::sub::sub_beside;
-use crate::xor::xor_beside;
+use crate::xor_shift::xor_shift_beside;
 use format::Bin;
 use rules::{Beside, Equals, View};
 use signed::wrapped_difference;
@@ -35,53 +35,27 @@ pub fn beside(op: Bin, size: u64, e: View, n: u64) -> Beside
         Bin::Add => add_beside(e, n),
         Bin::Sub => sub_beside(e, n),
         Bin::Mul => mul_beside(n),
-        Bin::Xor => xor_beside(n),
         Bin::Or => or_beside(size, n),
-        Bin::IntLeftShift => shift_beside(n),
-        Bin::IntRightShift => shift_beside(n),
-        Bin::IntSignedRightShift => shift_beside(n),
-        Bin::IntCarry => flag_beside(),
-        Bin::IntSCarry => flag_beside(),
-        Bin::IntSBorrow => flag_beside(),
+        Bin::Xor | Bin::IntLeftShift | Bin::IntRightShift | Bin::IntSignedRightShift =>
+            xor_shift_beside(n),
+        Bin::IntCarry | Bin::IntSCarry | Bin::IntSBorrow => Beside::Stay,
     }
 }
 
 pub fn swaps(op: Bin) -> bool
     ensures { result ≡ (rule_of op).swaps }
 {
-    match op {
-        Bin::Add => true,
-        Bin::Sub => false,
-        Bin::Mul => true,
-        Bin::Xor => true,
-        Bin::Or => true,
-        Bin::IntLeftShift => false,
-        Bin::IntRightShift => false,
-        Bin::IntSignedRightShift => false,
-        Bin::IntCarry => false,
-        Bin::IntSCarry => false,
-        Bin::IntSBorrow => false,
-    }
+    matches!(op, Bin::Add | Bin::Mul | Bin::Xor | Bin::Or)
 }
 
 pub fn equals(op: Bin) -> Equals
     ensures { result ≡ (rule_of op).equal }
 {
     match op {
-        Bin::Add => Equals::Stay,
-        // (e - e) -> #0
-        Bin::Sub => Equals::Zero,
-        Bin::Mul => Equals::Stay,
-        // (e ^ e) -> #0
-        Bin::Xor => Equals::Zero,
+        // (e - e) -> #0, (e ^ e) -> #0, sborrow(e, e) -> #0
+        Bin::Sub | Bin::Xor | Bin::IntSBorrow => Equals::Zero,
         // (e | e) -> e
         Bin::Or => Equals::Left,
-        Bin::IntLeftShift => Equals::Stay,
-        Bin::IntRightShift => Equals::Stay,
-        Bin::IntSignedRightShift => Equals::Stay,
-        Bin::IntCarry => Equals::Stay,
-        Bin::IntSCarry => Equals::Stay,
-        // sborrow(e, e) -> #0
-        Bin::IntSBorrow => Equals::Zero,
+        _ => Equals::Stay,
     }
 }

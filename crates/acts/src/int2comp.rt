@@ -16,9 +16,6 @@ pub fn neg_act(size: u64, e: View) -> Act
         View::Constant(n) => Act::Make(un_value(Un::Int2Comp, size, size, n)),
         // -(-e) -> e
         View::Negation => Act::Give(Near::LeftLeft),
-        View::Plus(_) => Act::Keep,
-        View::Minus(_) => Act::Keep,
-        View::Extension(_) => Act::Keep,
-        View::Other => Act::Keep,
+        _ => Act::Keep,
     }
 }

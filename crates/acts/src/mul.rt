@@ -8,13 +8,11 @@ use rules::Beside;
 pub fn mul_beside(n: u64) -> Beside
     ensures { result ≡ mul_beside n }
 {
-    // (e * #1) -> e
-    if n == 1 {
-        return Beside::Itself;
+    match n {
+        // (e * #1) -> e
+        1 => Beside::Itself,
+        // (e * #0) -> #0
+        0 => Beside::Make(0),
+        _ => Beside::Stay,
     }
-    // (e * #0) -> #0
-    if n == 0 {
-        return Beside::Make(0);
-    }
-    Beside::Stay
 }

@@ -8,27 +8,6 @@ use format::Un;
 use rules::{Act, Near, View};
 use values::un_value;
 
-fn sext_inner(size: u64, child: u64, e: View) -> Act
-    requires { ViewFits size child e }
-    ensures { result ≡ sext_inner size child e }
-{
-    match e {
-        // sext(#n) -> #(n at `size` bytes)
-        View::Constant(n) => Act::Make(un_value(Un::SignExtend, size, child, n)),
-        // sext(sext(e)) -> sext(e)
-        View::Extension(inner) => {
-            if inner <= size {
-                return Act::RedoUnary(Un::SignExtend, Near::LeftLeft);
-            }
-            Act::Keep
-        }
-        View::Plus(_) => Act::Keep,
-        View::Minus(_) => Act::Keep,
-        View::Negation => Act::Keep,
-        View::Other => Act::Keep,
-    }
-}
-
 pub fn sext_act(size: u64, child: u64, e: View) -> Act
     requires { ViewFits size child e }
     ensures { result ≡ cond (eqb child size) (Act.Give Near.Left) (sext_inner size child e) }
@@ -37,5 +16,11 @@ pub fn sext_act(size: u64, child: u64, e: View) -> Act
     if child == size {
         return Act::Give(Near::Left);
     }
-    sext_inner(size, child, e)
+    match e {
+        // sext(#n) -> #(n at `size` bytes)
+        View::Constant(n) => Act::Make(un_value(Un::SignExtend, size, child, n)),
+        // sext(sext(e)) -> sext(e)
+        View::Extension(inner) if inner <= size => Act::RedoUnary(Un::SignExtend, Near::LeftLeft),
+        _ => Act::Keep,
+    }
 }

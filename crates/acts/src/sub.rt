@@ -26,9 +26,6 @@ pub fn sub_beside(e: View, n: u64) -> Beside
         View::Plus(a) => moved(a, n, Bin::Sub, Bin::Add),
         // ((e - #a) - #n) -> (e - #(a + n))
         View::Minus(a) => Beside::RedoInner(Bin::Sub, wrapping_add(a, n)),
-        View::Constant(_) => Beside::Stay,
-        View::Negation => Beside::Stay,
-        View::Extension(_) => Beside::Stay,
-        View::Other => Beside::Stay,
+        _ => Beside::Stay,
     }
 }

@@ -1,41 +1,34 @@
 // What a rule sees of its children.
-ghost use Rattle.std.specs.Prelude.{◌≡◌, ◌<◌, Some};
-ghost use Rattle.tree.specs.Arena.{node_at};
-ghost use Rattle.rules.specs.Rules.{view, bin_view, un_view};
+ghost use Rattle.std.specs.Prelude.{◌≡◌, ◌<◌};
+ghost use Rattle.rules.specs.Rules.{constant_of, view, bin_view, un_view};
 ghost use Rattle.arena.specs.Live.{tree_of};
-ghost use Rattle.acts.specs.Views.{node_constant, view_constant};
 
 use arena::Nodes;
 use format::{Bin, Node, Un};
 use rules::View;
 
-fn plus_or_minus(op: Bin, a: u64) -> View
-    ensures { result ≡ bin_view op (Some a) }
+// The constant that node i is, if it is one: by its kind, before the rest of it is read.
+#[tactic(auto, using(crate::specs::Views::constant_at))]
+fn constant_at(nodes: Nodes<'_>, i: usize) -> Option<u64>
+    requires { i < nodes.count }
+    ensures { result ≡ constant_of (tree_of nodes.entry.count nodes.entry.words.now i) }
 {
-    match op {
-        Bin::Add => View::Plus(a),
-        Bin::Sub => View::Minus(a),
-        Bin::Mul => View::Other,
-        Bin::Xor => View::Other,
-        Bin::Or => View::Other,
-        Bin::IntLeftShift => View::Other,
-        Bin::IntRightShift => View::Other,
-        Bin::IntSignedRightShift => View::Other,
-        Bin::IntCarry => View::Other,
-        Bin::IntSCarry => View::Other,
-        Bin::IntSBorrow => View::Other,
+    if nodes.is_const(i) {
+        Some(nodes.payload(i))
+    } else {
+        None
     }
 }
 
-// What an operator shows beside its right child, node `right`.
-fn bin_view(nodes: Nodes<'_>, op: Bin, right: usize) -> View
-    requires { right < nodes.count }
-    ensures { result ≡ bin_view op (node_constant (node_at nodes.entry.words.now right)) }
+// What an operator shows beside the constant that its right child is, if it is one.
+fn bin_view(op: Bin, right: Option<u64>) -> View
+    ensures { result ≡ bin_view op right }
 {
-    if nodes.is_const(right) {
-        return plus_or_minus(op, nodes.payload(right));
+    match (op, right) {
+        (Bin::Add, Some(a)) => View::Plus(a),
+        (Bin::Sub, Some(a)) => View::Minus(a),
+        _ => View::Other,
     }
-    View::Other
 }
 
 fn un_view(op: Un, size: u64) -> View
@@ -47,25 +40,15 @@ fn un_view(op: Un, size: u64) -> View
     }
 }
 
+#[tactic(auto, using(crate::specs::Views::view_of_node))]
 pub fn view_at(nodes: Nodes<'_>, i: usize) -> View
-    requires i_lt_count { i < nodes.count }
+    requires { i < nodes.count }
     ensures { result ≡ view (tree_of nodes.entry.count nodes.entry.words.now i) }
 {
     match nodes.node(i) {
-        Node::Top => View::Other,
-        Node::Entry(_, _, _) => View::Other,
         Node::Const(_, value) => View::Constant(value),
-        Node::Bind(_, _) => View::Other,
         Node::Unary(op, size, _) => un_view(op, size),
-        Node::Binary(op, _, _, right) => bin_view(nodes, op, right),
-    }
-}
-
-pub fn constant_of(a: View) -> Option<u64>
-    ensures { result ≡ view_constant a }
-{
-    match a {
-        View::Constant(m) => Some(m),
-        _ => None,
+        Node::Binary(op, _, _, right) => bin_view(op, constant_at(nodes, right)),
+        _ => View::Other,
     }
 }

@@ -7,7 +7,7 @@ ghost use Rattle.tree.specs.Tree.{same as same_tree};
 ghost use Rattle.arena.specs.Live.{Live, tree_of};
 ghost use Rattle.equal.specs.Alike.{label_of, alike_at};
 
-use arena::{header_at, payload_at};
+use arena::{Nodes, header_at, payload_at};
 use format::Node;
 use words::fields;
 
@@ -30,7 +30,7 @@ fn alike(words: &[u64], i: usize, j: usize) -> bool
     false
 }
 
-pub fn same(words: &[u64], count: usize, i: usize, j: usize) -> bool
+fn same_in(words: &[u64], count: usize, i: usize, j: usize) -> bool
     requires live { Live words.now count }
     requires i_lt_count { (i < count) × (j < count) }
     ensures { result ≡ same_tree (tree_of count words.now i) (tree_of count words.now j) }
@@ -44,12 +44,19 @@ pub fn same(words: &[u64], count: usize, i: usize, j: usize) -> bool
         Node::Entry(_, _, _) => true,
         Node::Const(_, _) => true,
         Node::Bind(_, _) => true,
-        Node::Unary(_, _, left) => same(words, count, left, fields::left_of(other)),
+        Node::Unary(_, _, left) => same_in(words, count, left, fields::left_of(other)),
         Node::Binary(_, _, left, right) => {
-            if !same(words, count, left, fields::left_of(other)) {
+            if !same_in(words, count, left, fields::left_of(other)) {
                 return false;
             }
-            same(words, count, right, fields::right_of(other))
+            same_in(words, count, right, fields::right_of(other))
         }
     }
+}
+
+pub fn same(nodes: Nodes<'_>, i: usize, j: usize) -> bool
+    requires { (i < nodes.count) × (j < nodes.count) }
+    ensures { result ≡ same_tree (tree_of nodes.entry.count nodes.entry.words.now i) (tree_of nodes.entry.count nodes.entry.words.now j) }
+{
+    same_in(nodes.words, nodes.count, i, j)
 }

@@ -1,4 +1,5 @@
 pub mod Rules
+pub mod Seen
 pub mod Run
 pub mod Call
 pub mod Bench

@@ -2,6 +2,7 @@
 #![tactic(auto)]
 
 ghost use Rattle.std.specs.Prelude.{◌≡◌};
+ghost use Rattle.rules.specs.Seen.{view_constant};
 ghost use Rattle.rules.specs.declared.SimplifyError.TheVariants.{Refused};
 
 use format::{Bin, Un};
@@ -16,6 +17,18 @@ pub enum View {
     Negation,
     Extension(u64),
     Other,
+}
+
+impl View {
+    /// The constant that it is, if it is one.
+    pub fn constant(self) -> Option<u64>
+        ensures { result ≡ view_constant self }
+    {
+        match self {
+            View::Constant(v) => Some(v),
+            _ => None,
+        }
+    }
 }
 
 // A node near the one that is simplified: a child, or a child's left child.

@@ -3,7 +3,7 @@ use Rattle.std.proofs.Common.{◌≡◌, sym, arith, ℕ, ◌<◌, List, true}
 use Rattle.arena.specs.Live.{Live}
 use Rattle.equal.specs.Alike.{alike_at}
 use Rattle.equal.proofs.Laws.{Matched, unlike_differ, alike_same, both_below}
-use Rattle.equal.proofs.+same.Goals as goal
+use Rattle.equal.proofs.+same_in.Goals as goal
 use Rattle.format.specs.Limits.{header_at}
 use Rattle.format.specs.declared.Node.{Node}
 use Rattle.tree.specs.Arena.{node_at}
@@ -24,25 +24,25 @@ pub returns-then-not-alike : goal.returns-then-not-alike
 returns-then-not-alike t c =
     sym (unlike_differ c.requires.live _ _ c.requires.i_lt_count.0 c.requires.i_lt_count.1 (sym c.if-not-alike.ensures))
 
-pub same-requires : goal.same-requires
-same-requires t c =
+pub same_in-requires : goal.same_in-requires
+same_in-requires t c =
     let m = matched c.requires.live c.requires.i_lt_count c.if-not-alike.ensures c.in-Unary.ensures c.header_at-other.ensures in
     let b = both_below m in
     (omega arith, (c.requires.live, (omega arith, omega arith)))
 
-pub same-requires-in-Binary : goal.same-requires-in-Binary
-same-requires-in-Binary t c =
+pub same_in-requires-in-Binary : goal.same_in-requires-in-Binary
+same_in-requires-in-Binary t c =
     let m = matched c.requires.live c.requires.i_lt_count c.if-not-alike.ensures c.in-Binary.ensures c.header_at-other.ensures in
     let b = both_below m in
     (omega arith, (c.requires.live, (omega arith, omega arith)))
 
-pub returns-then-not-same : goal.returns-then-not-same
-returns-then-not-same t c =
+pub returns-then-not-same_in : goal.returns-then-not-same_in
+returns-then-not-same_in t c =
     let m = matched c.requires.live c.requires.i_lt_count c.if-not-alike.ensures c.in-Binary.ensures c.header_at-other.ensures in
-    rw (alike_same m, ← c.left_of-in-Binary.ensures, ← c.if-not-same.ensures)
+    rw (alike_same m, ← c.left_of-in-Binary.ensures, ← c.if-not-same_in.ensures)
 
-pub same-requires-in-Binary-2 : goal.same-requires-in-Binary-2
-same-requires-in-Binary-2 t c =
+pub same_in-requires-in-Binary-2 : goal.same_in-requires-in-Binary-2
+same_in-requires-in-Binary-2 t c =
     let m = matched c.requires.live c.requires.i_lt_count c.if-not-alike.ensures c.in-Binary.ensures c.header_at-other.ensures in
     let b = both_below m in
     (omega arith, (c.requires.live, (omega arith, omega arith)))
@@ -66,9 +66,9 @@ returns-in-Bind t c =
 pub returns-in-Unary : goal.returns-in-Unary
 returns-in-Unary t c =
     let m = matched c.requires.live c.requires.i_lt_count c.if-not-alike.ensures c.in-Unary.ensures c.header_at-other.ensures in
-    rw (alike_same m, ← c.left_of.ensures) c.same.ensures
+    rw (alike_same m, ← c.left_of.ensures) c.same_in.ensures
 
-pub returns-else-not-same : goal.returns-else-not-same
-returns-else-not-same t c =
+pub returns-else-not-same_in : goal.returns-else-not-same_in
+returns-else-not-same_in t c =
     let m = matched c.requires.live c.requires.i_lt_count c.if-not-alike.ensures c.in-Binary.ensures c.header_at-other.ensures in
-    rw (alike_same m, ← c.left_of-in-Binary.ensures, ← c.if-not-same.ensures, ← c.right_of.ensures) c.same-in-Binary-2.ensures
+    rw (alike_same m, ← c.left_of-in-Binary.ensures, ← c.if-not-same_in.ensures, ← c.right_of.ensures) c.same_in-in-Binary-2.ensures
