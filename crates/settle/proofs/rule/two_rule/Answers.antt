@@ -9,7 +9,7 @@ use Rattle.settle.proofs.rule.two_rule.Goals as goal
 pub settle-requires-clause-i_lt_count : goal.settle-requires-clause-i_lt_count
 settle-requires-clause-i_lt_count c =
     let over = c.requires.over in
-    (c.requires.below, over.left_below, over.right_below, over_size c.args.arena.now.live over)
+    (c.requires.below, over.left_below, over.right_below, over_size over)
 
 pub settle-requires-clause-settles : goal.settle-requires-clause-settles
 settle-requires-clause-settles c =

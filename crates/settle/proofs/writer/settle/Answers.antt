@@ -1,11 +1,14 @@
 -- The writer carries an action out: each node that it makes is appended. Assumes nothing.
-use Rattle.std.proofs.Common.{sym, ◌∙◌}
+use Rattle.std.proofs.Common.{◌≡◌, sym, ◌∙◌}
+use Rattle.rules.specs.Run.{near}
+use Rattle.tree.specs.Arena.{nodes_of}
 use Rattle.settle.specs.Chains.{redo_ended}
 use Rattle.settle.proofs.writer.settle.Goals as goal
 
 pub returns-in_ok-right-in-Redo : goal.returns-in_ok-right-in-Redo
 returns-in_ok-right-in-Redo g c =
-    let left = rw (c.nodes-in-Redo.ensures.words, c.nodes-in-Redo.ensures.count) at c.near-left.ensures.0 in
+    let left : c.near-left.result ≡ near c.in-Redo.which (nodes_of c.args.arena.now.count c.args.arena.now.words.now) c.args.a c.args.b =
+        rw (c.nodes-in-Redo.ensures.words, c.nodes-in-Redo.ensures.count) at c.near-left.ensures.0 in
     record {
       same_reference = c.push-in-Redo.ensures.same_reference ∙ c.in_ok-right-in-Redo.ensures.same_reference;
       ended =
