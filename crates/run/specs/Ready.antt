@@ -1,10 +1,11 @@
 -- What is known of a node once its children are simplified, and what its visit then is. Assumes nothing.
-use Rattle.std.specs.Prelude.{Bool, true, false, ◌||◌, List, ◌≡◌, refl, ℕ, ◌<◌, None, Option, Some}
+use Rattle.std.specs.Prelude.{Bool, true, false, ◌||◌, List, ◌≡◌, refl, ℕ, ◌<◌, None}
 use Rattle.std.proofs.Common.{ap, sym, ◌∙◌, arith}
 use Rattle.arena.specs.Ended.{Ended}
-use Rattle.arena.specs.Live.{Live, New, tree_of, node_is_top, node_is_leaf}
-use Rattle.arena.specs.LiveLaws.{live_ordered, in_arena, top_at, tree_of_node}
-use Rattle.arena.specs.declared.Step.{Step}
+use Rattle.arena.specs.Live.{Live, New, tree_of, node_is_leaf}
+use Rattle.arena.specs.LiveLaws.{live_ordered, in_arena, tree_of_node}
+use Rattle.arena.specs.Step.{Step}
+use Rattle.arena.specs.declared.Arena.{Arena}
 use Rattle.format.specs.Truth.{or_neither, not_both}
 use Rattle.format.specs.declared.Bin.{Bin}
 use Rattle.format.specs.declared.Node.{Node}
@@ -12,6 +13,8 @@ use Rattle.format.specs.declared.Un.{Un}
 use Rattle.rules.specs.Run.{Out, out, unary_run, binary_run, weight, simplified}
 use Rattle.settle.specs.Chains.{after_run, ended_here, unary_child, binary_children}
 use Rattle.settle.specs.Visits.{OneAt, TwoAt}
+use Rattle.settle.specs.declared.rule.One.{One}
+use Rattle.settle.specs.declared.rule.Two.{Two}
 use Rattle.theory.specs.Normal.{Normal, normal_top}
 use Rattle.theory.proofs.Reduced.{reduced_normal, reduced_top}
 use Rattle.theory.specs.Simulation.{run_on_normal}
@@ -61,6 +64,26 @@ abbrev pub after_two : List ℕ → (count i : ℕ) → Bin → (s j k a b : ℕ
 after_two words count i op s j k a b =
     binary_run simplified (is_top (tree_of count words a) || is_top (tree_of count words b)) i op s j k (nodes_of count words) a b
 
+-- THE SAME OF AN ARENA, and a node of it
+
+abbrev pub OneStands : Arena → One → Type 0
+OneStands arena node = (node.index < arena.count) × (node_at arena.words.now node.index ≡ Node.Unary node.op node.size node.left)
+
+abbrev pub TwoStands : Arena → Two → Type 0
+TwoStands arena node = (node.index < arena.count) × (node_at arena.words.now node.index ≡ Node.Binary node.op node.size node.left node.right)
+
+abbrev pub OneReadyIn : Arena → One → (a : ℕ) → Type 0
+OneReadyIn arena node a = OneReady arena.words.now arena.count node.index node.op node.size node.left a
+
+abbrev pub TwoReadyIn : Arena → Two → (a b : ℕ) → Type 0
+TwoReadyIn arena node a b = TwoReady arena.words.now arena.count node.index node.op node.size node.left node.right a b
+
+abbrev pub after_one_in : Arena → One → (a : ℕ) → Out
+after_one_in arena node a = after_one arena.words.now arena.count node.index node.op node.size node.left a
+
+abbrev pub after_two_in : Arena → Two → (a b : ℕ) → Out
+after_two_in arena node a b = after_two arena.words.now arena.count node.index node.op node.size node.left node.right a b
+
 pub new_top : (arena : List Node) → New arena Node.Top
 new_top arena = record { below = tt; narrow = tt; sized = tt }
 
@@ -92,11 +115,6 @@ two_at {words} {count} {i} {op} {s} {j} {k} {a} {b} r e f = record {
   left_normal = r.left_normal;
   right_normal = r.right_normal;
 }
-
--- what the test of a node that was read tells of its tree
-pub top_read : {words : List ℕ} {count : ℕ} → Live words count → (a : ℕ) → a < count → (node : Node) (test answer : Bool) → node ≡ node_at words a → test ≡ node_is_top node →
-    test ≡ answer → is_top (tree_of count words a) ≡ answer
-top_read live a h node test answer p q r = top_at live a h ∙ ap node_is_top (sym p) ∙ sym q ∙ r
 
 -- THE CHILDREN ARE REDUCED TREES
 

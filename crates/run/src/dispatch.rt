@@ -1,156 +1,84 @@
 // Dispatch: a node's children are simplified, left before right, then its rule decides.
 ghost use Rattle.std.specs.Prelude.{◌≡◌, ◌<◌};
-ghost use Rattle.tree.specs.Arena.{node_at, nodes_of};
+ghost use Rattle.tree.specs.Arena.{nodes_of};
 ghost use Rattle.rules.specs.Run.{simplified};
-ghost use Rattle.arena.specs.Live.{Live, tree_of};
-ghost use Rattle.arena.specs.Ended.{Ended};
-ghost use Rattle.run.specs.Ready.{OneReady, TwoReady, Ready, Prepared, after_one, after_two};
+ghost use Rattle.arena.specs.Live.{tree_of};
+ghost use Rattle.arena.specs.Ends.{Ends};
+ghost use Rattle.run.specs.Ready.{OneStands, TwoStands, Ready, Prepared};
 
-use crate::add::add_rule;
-use crate::sign_extend::sext_rule;
-use crate::step::anew;
-use crate::sub::sub_rule;
-use arena::Step;
-use format::{Bin, Node, Un};
-use settle::rule::{plain_one, plain_two};
-use settle::turn::{Turn, turn_of};
-
-// Node i, whose child j has become a.
-#[cycle(visits)]
-fn after_one(
-    words: &mut [u64],
-    count: usize,
-    i: usize,
-    op: Un,
-    size: u64,
-    j: usize,
-    a: usize,
-) -> Step
-    requires live { Live words.old count }
-    requires one_ready { OneReady words.old count i op size j a }
-    ensures { Ended words.old words.new count (after_one words.old count i op size j a) result }
-{
-    if arena::is_top(arena::node_at(words, a)) {
-        return arena::push(words, count, Node::Top);
-    }
-    match op {
-        Un::SignExtend => sext_rule(words, count, i, size, j, a),
-        Un::Int2Comp => plain_one(words, count, i, size, j, a),
-    }
-}
-
-// Node i, whose children j and k have become a and b.
-#[cycle(visits)]
-fn after_two(
-    words: &mut [u64],
-    count: usize,
-    i: usize,
-    op: Bin,
-    size: u64,
-    j: usize,
-    k: usize,
-    a: usize,
-    b: usize,
-) -> Step
-    requires live { Live words.old count }
-    requires two_ready { TwoReady words.old count i op size j k a b }
-    ensures { Ended words.old words.new count (after_two words.old count i op size j k a b) result }
-{
-    if arena::is_top(arena::node_at(words, a)) {
-        return arena::push(words, count, Node::Top);
-    }
-    if arena::is_top(arena::node_at(words, b)) {
-        return arena::push(words, count, Node::Top);
-    }
-    match turn_of(op) {
-        Turn::Add => add_rule(words, count, i, size, j, k, a, b),
-        Turn::Sub => sub_rule(words, count, i, size, j, k, a, b),
-        Turn::Plain => plain_two(words, count, i, op, size, j, k, a, b),
-    }
-}
+use crate::rule::{after_one, after_two};
+use arena::{Arena, NoRoom};
+use format::Node;
+use settle::rule::{One, Two};
 
 // Simplifies a child. One that is `ready` is simplified already, and a leaf is itself: neither is worth a visit.
 #[cycle(visits)]
-fn child(words: &mut [u64], count: usize, j: usize, ready: bool) -> Step
-    requires live { Live words.old count }
-    requires j_lt_count { (j < count) × Ready ready (tree_of count words.old j) }
-    ensures { Ended words.old words.new count (simplified (nodes_of count words.old) j) result }
+fn child(arena: &mut Arena<'_>, j: usize, ready: bool) -> Result<usize, NoRoom>
+    requires { (j < arena.old.count) × Ready ready (tree_of arena.old.count arena.old.words.now j) }
+    ensures { Ends arena.old arena.new (simplified (nodes_of arena.old.count arena.old.words.now) j) result }
 {
-    if ready | arena::is_leaf(words, count, j) {
-        return Step::Done(j, count);
+    if ready | arena.nodes().is_leaf(j) {
+        return Ok(j);
     }
-    dispatch(words, count, j)
+    dispatch(arena, j)
 }
 
 #[cycle(visits)]
-fn visit_one(
-    words: &mut [u64],
-    count: usize,
-    i: usize,
-    op: Un,
-    size: u64,
-    j: usize,
-    ready: bool,
-) -> Step
-    requires live { Live words.old count }
-    requires i_lt_count { (i < count) × (node_at words.old i ≡ Node.Unary op size j) × Prepared ready (tree_of count words.old i) }
-    ensures { Ended words.old words.new count (simplified (nodes_of count words.old) i) result }
+fn visit_one(arena: &mut Arena<'_>, node: One, ready: bool) -> Result<usize, NoRoom>
+    requires { OneStands arena.old node × Prepared ready (tree_of arena.old.count arena.old.words.now node.index) }
+    ensures { Ends arena.old arena.new (simplified (nodes_of arena.old.count arena.old.words.now) node.index) result }
 {
-    match child(words, count, j, ready) {
-        Step::NoRoom => Step::NoRoom,
-        Step::Done(a, n) => after_one(words, n, i, op, size, j, a),
-    }
+    let a = child(arena, node.left, ready)?;
+    after_one(arena, node, a)
 }
 
 // The left child first, then the right one.
 #[cycle(visits)]
-fn visit_two(
-    words: &mut [u64],
-    count: usize,
-    i: usize,
-    op: Bin,
-    size: u64,
-    j: usize,
-    k: usize,
-    ready: bool,
-) -> Step
-    requires live { Live words.old count }
-    requires i_lt_count { (i < count) × (node_at words.old i ≡ Node.Binary op size j k) × Prepared ready (tree_of count words.old i) }
-    ensures { Ended words.old words.new count (simplified (nodes_of count words.old) i) result }
+fn visit_two(arena: &mut Arena<'_>, node: Two, ready: bool) -> Result<usize, NoRoom>
+    requires { TwoStands arena.old node × Prepared ready (tree_of arena.old.count arena.old.words.now node.index) }
+    ensures { Ends arena.old arena.new (simplified (nodes_of arena.old.count arena.old.words.now) node.index) result }
 {
-    match child(words, count, j, ready) {
-        Step::NoRoom => Step::NoRoom,
-        Step::Done(a, m) => match child(words, m, k, ready) {
-            Step::NoRoom => Step::NoRoom,
-            Step::Done(b, n) => after_two(words, n, i, op, size, j, k, a, b),
-        },
-    }
+    let a = child(arena, node.left, ready)?;
+    let b = child(arena, node.right, ready)?;
+    after_two(arena, node, a, b)
 }
 
 // Visits node i: a leaf is itself. `ready` tells that a rule has rebuilt the node over simplified children: to visit them
 // would append nothing and return their indices.
 #[cycle(visits)]
-pub fn visit(words: &mut [u64], count: usize, i: usize, ready: bool) -> Step
-    requires live { Live words.old count }
-    requires i_lt_count { (i < count) × Prepared ready (tree_of count words.old i) }
-    ensures { Ended words.old words.new count (simplified (nodes_of count words.old) i) result }
+pub fn visit(arena: &mut Arena<'_>, i: usize, ready: bool) -> Result<usize, NoRoom>
+    requires { (i < arena.old.count) × Prepared ready (tree_of arena.old.count arena.old.words.now i) }
+    ensures { Ends arena.old arena.new (simplified (nodes_of arena.old.count arena.old.words.now) i) result }
 {
-    match arena::node_at(words, i) {
-        Node::Top => Step::Done(i, count),
-        Node::Entry(_, _, _) => Step::Done(i, count),
-        Node::Const(_, _) => Step::Done(i, count),
-        Node::Bind(_, _) => Step::Done(i, count),
-        Node::Unary(op, size, j) => anew(visit_one(words, count, i, op, size, j, ready)),
-        Node::Binary(op, size, j, k) => anew(visit_two(words, count, i, op, size, j, k, ready)),
+    match arena.nodes().node(i) {
+        Node::Unary(op, size, left) => {
+            let node = One {
+                index: i,
+                op,
+                size,
+                left,
+            };
+            visit_one(arena, node, ready)
+        }
+        Node::Binary(op, size, left, right) => {
+            let node = Two {
+                index: i,
+                op,
+                size,
+                left,
+                right,
+            };
+            visit_two(arena, node, ready)
+        }
+        _ => Ok(i),
     }
 }
 
-// Simplifies node i.
+/// Simplifies node i.
 #[cycle(visits)]
-pub fn dispatch(words: &mut [u64], count: usize, i: usize) -> Step
-    requires live { Live words.old count }
-    requires i_lt_count { i < count }
-    ensures { Ended words.old words.new count (simplified (nodes_of count words.old) i) result }
+pub fn dispatch(arena: &mut Arena<'_>, i: usize) -> Result<usize, NoRoom>
+    requires { i < arena.old.count }
+    ensures { Ends arena.old arena.new (simplified (nodes_of arena.old.count arena.old.words.now) i) result }
 {
-    visit(words, count, i, false)
+    visit(arena, i, false)
 }

@@ -1,8 +1,5 @@
-// The rewriting: dispatch simplifies a node's children, and the rules that simplify again call dispatch in their turn.
+// The rewriting: dispatch simplifies a node's children and calls its rule, and the rules that simplify again call dispatch in their turn.
 #![tactic(auto)]
 
-mod add;
 pub mod dispatch;
-mod sign_extend;
-mod step;
-mod sub;
+mod rule;

@@ -4,7 +4,7 @@ use Rattle.std.proofs.Common.{ap, ap₂, sym, ◌∙◌, le_refl, arith}
 use Rattle.arena.specs.Ended.{Did, Ran, Ended}
 use Rattle.arena.specs.Live.{Live, tree_of}
 use Rattle.arena.specs.LiveLaws.{in_arena, live_ordered}
-use Rattle.arena.specs.declared.Step.{Step}
+use Rattle.arena.specs.Step.{Step}
 use Rattle.format.specs.Limits.{node_words}
 use Rattle.format.specs.Nodes.{node_of}
 use Rattle.format.specs.declared.Bin.{Bin}

@@ -11,7 +11,6 @@ use Rattle.format.specs.declared.Un.{Un}
 use Rattle.rules.specs.Rules.{bin_act, un_act}
 use Rattle.rules.specs.Run.{Out, append, kept_as, make_const, near}
 use Rattle.rules.specs.declared.Act.{Act}
-use Rattle.settle.specs.declared.writer.Op.{Op}
 use Rattle.theory.specs.Simulation.{near_stands}
 use Rattle.theory.specs.Sizes.{size_bounds, bin_is_size, un_is_size}
 use Rattle.theory.specs.TreeRun.{const_tree}
@@ -23,14 +22,9 @@ use Rattle.tree.specs.ArenaLaws.{length-nodes_of, length_appended, appended_exte
 use Rattle.tree.specs.Form.{is_size, Sized}
 use Rattle.tree.specs.Tree.{unary, binary}
 
--- an operator's node over a, or over a and b
-abbrev pub over_of : Op → (s a b : ℕ) → Node
-over_of (Op.One op) s a b = Node.Unary op s a
-over_of (Op.Two op) s a b = Node.Binary op s a b
-
 -- what an action makes of the arena, short of simplifying again
-abbrev pub settled : Act → (kept : Bool) → (i : ℕ) → Op → ℕ → List Node → (a b : ℕ) → Out
-settled act kept i op s arena a b = carried act (kept_as kept i (over_of op s a b) arena) (append (over_of op s b a) arena) s arena a b
+abbrev pub settled : Act → (kept : Bool) → (i : ℕ) → (over : ℕ → ℕ → Node) → ℕ → List Node → (a b : ℕ) → Out
+settled act kept i over s arena a b = carried act (kept_as kept i (over a b) arena) (append (over b a) arena) s arena a b
 
 -- each node that the action appends is new
 abbrev pub Settles : List Node → Act → (own swapped : Node) → (s a b : ℕ) → Type 0

@@ -2,5 +2,4 @@
 #![tactic(auto)]
 
 pub mod rule;
-pub mod turn;
 mod writer;

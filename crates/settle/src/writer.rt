@@ -1,74 +1,81 @@
 // The writer: carries a decision out.
-ghost use Rattle.std.specs.Prelude.{◌≡◌, ◌<◌};
+ghost use Rattle.std.specs.Prelude.{◌≡◌, ◌<◌, ℕ};
+ghost use Rattle.format.specs.declared.Node.{Node};
 ghost use Rattle.tree.specs.Arena.{nodes_of};
-ghost use Rattle.arena.specs.Live.{Live};
-ghost use Rattle.arena.specs.Ended.{Ended};
+ghost use Rattle.rules.specs.Run.{append, make_const};
 ghost use Rattle.arith.specs.Operands.{Size};
-ghost use Rattle.settle.specs.Settled.{over_of, settled, Settles};
+ghost use Rattle.arena.specs.Live.{New};
+ghost use Rattle.arena.specs.Ends.{Ends};
+ghost use Rattle.settle.specs.Settled.{settled, Settles};
 
-use arena::Step;
+use arena::{Arena, NoRoom};
 use format::{Bin, Node, Un};
 use rules::Act;
 use values::make_const;
 
-// An operator of one child, or of two.
-#[derive(Clone, Copy)]
-pub enum Op {
-    One(Un),
-    Two(Bin),
+// An operator, of one child or of two.
+pub trait Operator: Copy {
+    ghost over_of: { Self → (size a b : ℕ) → Node };
+
+    // Its node over a, or over a and b.
+    fn over(self, size: u64, a: usize, b: usize) -> Node
+        ensures { result ≡ over_of self size a b };
 }
 
-// The node of an operator of one child over a, or of two over a and b.
-fn over(op: Op, size: u64, a: usize, b: usize) -> Node
-    ensures { result ≡ over_of op size a b }
-{
-    match op {
-        Op::One(un) => Node::Unary(un, size, a),
-        Op::Two(bin) => Node::Binary(bin, size, a, b),
+impl Operator for Un {
+    ghost over_of = { λ op size a b. Node.Unary op size a };
+
+    fn over(self, size: u64, a: usize, _: usize) -> Node {
+        Node::Unary(self, size, a)
     }
+}
+
+impl Operator for Bin {
+    ghost over_of = { λ op size a b. Node.Binary op size a b };
+
+    fn over(self, size: u64, a: usize, b: usize) -> Node {
+        Node::Binary(self, size, a, b)
+    }
+}
+
+fn push_const(arena: &mut Arena<'_>, size: u64, v: u64) -> Result<usize, NoRoom>
+    requires size { Size size }
+    requires new { New (nodes_of arena.old.count arena.old.words.now) (make_const size v) }
+    ensures { Ends arena.old arena.new (append (make_const size v) (nodes_of arena.old.count arena.old.words.now)) result }
+{
+    arena.push(make_const(size, v))
 }
 
 // Carries an action out on node i, short of simplifying again. Its simplified children are a and b, and `kept` is whether it
 // has them still.
-pub fn settle(
-    words: &mut [u64],
-    count: usize,
+pub fn settle<O: Operator>(
+    arena: &mut Arena<'_>,
     i: usize,
     act: Act,
     kept: bool,
-    op: Op,
+    op: O,
     size: u64,
     a: usize,
     b: usize,
-) -> Step
-    requires live { Live words.old count }
-    requires i_lt_count { (i < count) × (a < count) × (b < count) × Size size }
-    requires settles { Settles (nodes_of count words.old) act (over_of op size a b) (over_of op size b a) size a b }
-    ensures { Ended words.old words.new count (settled act kept i op size (nodes_of count words.old) a b) result }
+) -> Result<usize, NoRoom>
+    requires i_lt_count { (i < arena.old.count) × (a < arena.old.count) × (b < arena.old.count) × Size size }
+    requires settles { Settles (nodes_of arena.old.count arena.old.words.now) act (O.over_of op size a b) (O.over_of op size b a) size a b }
+    ensures { Ends arena.old arena.new (settled act kept i (O.over_of op size) size (nodes_of arena.old.count arena.old.words.now) a b) result }
 {
     match act {
-        Act::Keep => {
-            if kept {
-                return Step::Done(i, count);
-            }
-            arena::push(words, count, over(op, size, a, b))
-        }
-        Act::Swap => arena::push(words, count, over(op, size, b, a)),
-        Act::Give(which) => {
-            let given = arena::near(words, count, which, a, b);
-            Step::Done(given, count)
-        }
-        Act::Make(v) => arena::push(words, count, make_const(size, v)),
+        Act::Keep if kept => Ok(i),
+        Act::Keep => arena.push(op.over(size, a, b)),
+        Act::Swap => arena.push(op.over(size, b, a)),
+        Act::Give(which) => Ok(arena.nodes().near(which, a, b)),
+        Act::Make(v) => push_const(arena, size, v),
         Act::Redo(bin, which, v) => {
-            let left = arena::near(words, count, which, a, b);
-            match arena::push(words, count, make_const(size, v)) {
-                Step::NoRoom => Step::NoRoom,
-                Step::Done(right, n) => arena::push(words, n, Node::Binary(bin, size, left, right)),
-            }
+            let left = arena.nodes().near(which, a, b);
+            let right = push_const(arena, size, v)?;
+            arena.push(Node::Binary(bin, size, left, right))
         }
         Act::RedoUnary(un, which) => {
-            let left = arena::near(words, count, which, a, b);
-            arena::push(words, count, Node::Unary(un, size, left))
+            let left = arena.nodes().near(which, a, b);
+            arena.push(Node::Unary(un, size, left))
         }
     }
 }

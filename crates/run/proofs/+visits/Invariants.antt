@@ -1,39 +1,30 @@
--- Dispatch, Add, Sub and SignExtend call one another. What falls is five times the weight of the tree that a call is on, twice its nodes and
--- one more for a Sub at its root, with 5 more for a child, 4 for dispatch, 3 for a visit, 2 for that of the children and 1 for what comes after them. Assumes nothing.
+-- Dispatch and the rules call one another. What falls is five times the weight of the tree that a call is on, twice its nodes and one more
+-- for a Sub at its root, with 5 more for a child, 4 for dispatch, 3 for a visit, 2 for that of the children and 1 for what comes after them.
+-- Assumes nothing.
 use Rattle.std.proofs.Common.{◌+◌, ◌*◌}
 use Rattle.arena.specs.Live.{tree_of}
-use Rattle.format.specs.declared.Bin.{Bin}
-use Rattle.format.specs.declared.Un.{Un}
 use Rattle.rules.specs.Run.{weight}
 use Rattle.tree.specs.Tree.{unary, binary}
 use Rattle.run.proofs.+visits.Given as goal
 
-abbrev pub decreases-add::add_rule : goal.decreases-add::add_rule
-decreases-add::add_rule l = 5 * weight (binary Bin.Add l.size (tree_of l.count l.words.now l.a) (tree_of l.count l.words.now l.b))
+abbrev pub decreases-rule::after_one : goal.decreases-rule::after_one
+decreases-rule::after_one l = 5 * weight (unary l.node.op l.node.size (tree_of l.arena.now.count l.arena.now.words.now l.a)) + 1
 
-abbrev pub decreases-dispatch::after_one : goal.decreases-dispatch::after_one
-decreases-dispatch::after_one l = 5 * weight (unary l.op l.size (tree_of l.count l.words.now l.a)) + 1
-
-abbrev pub decreases-dispatch::after_two : goal.decreases-dispatch::after_two
-decreases-dispatch::after_two l = 5 * weight (binary l.op l.size (tree_of l.count l.words.now l.a) (tree_of l.count l.words.now l.b)) + 1
+abbrev pub decreases-rule::after_two : goal.decreases-rule::after_two
+decreases-rule::after_two l =
+    5 * weight (binary l.node.op l.node.size (tree_of l.arena.now.count l.arena.now.words.now l.a) (tree_of l.arena.now.count l.arena.now.words.now l.b)) + 1
 
 abbrev pub decreases-dispatch::child : goal.decreases-dispatch::child
-decreases-dispatch::child l = 5 * weight (tree_of l.count l.words.now l.j) + 5
+decreases-dispatch::child l = 5 * weight (tree_of l.arena.now.count l.arena.now.words.now l.j) + 5
 
 abbrev pub decreases-dispatch::dispatch : goal.decreases-dispatch::dispatch
-decreases-dispatch::dispatch l = 5 * weight (tree_of l.count l.words.now l.i) + 4
+decreases-dispatch::dispatch l = 5 * weight (tree_of l.arena.now.count l.arena.now.words.now l.i) + 4
 
 abbrev pub decreases-dispatch::visit : goal.decreases-dispatch::visit
-decreases-dispatch::visit l = 5 * weight (tree_of l.count l.words.now l.i) + 3
+decreases-dispatch::visit l = 5 * weight (tree_of l.arena.now.count l.arena.now.words.now l.i) + 3
 
 abbrev pub decreases-dispatch::visit_one : goal.decreases-dispatch::visit_one
-decreases-dispatch::visit_one l = 5 * weight (tree_of l.count l.words.now l.i) + 2
+decreases-dispatch::visit_one l = 5 * weight (tree_of l.arena.now.count l.arena.now.words.now l.node.index) + 2
 
 abbrev pub decreases-dispatch::visit_two : goal.decreases-dispatch::visit_two
-decreases-dispatch::visit_two l = 5 * weight (tree_of l.count l.words.now l.i) + 2
-
-abbrev pub decreases-sign_extend::sext_rule : goal.decreases-sign_extend::sext_rule
-decreases-sign_extend::sext_rule l = 5 * weight (unary Un.SignExtend l.size (tree_of l.count l.words.now l.a))
-
-abbrev pub decreases-sub::sub_rule : goal.decreases-sub::sub_rule
-decreases-sub::sub_rule l = 5 * weight (binary Bin.Sub l.size (tree_of l.count l.words.now l.a) (tree_of l.count l.words.now l.b))
+decreases-dispatch::visit_two l = 5 * weight (tree_of l.arena.now.count l.arena.now.words.now l.node.index) + 2

@@ -1,20 +1,22 @@
 -- A rule of one child: its decision, carried out. Assumes nothing.
 use Rattle.std.proofs.Common.{refl}
+use Rattle.std.proofs.lemmas.Result.{err_from_is_err_and}
 use Rattle.acts.specs.Decided.{un_over_size}
 use Rattle.settle.specs.Settled.{settles_unary}
-use Rattle.settle.specs.Visits.{one_ran}
+use Rattle.settle.specs.Visits.{one_runs}
 use Rattle.settle.proofs.rule.one_rule.Goals as goal
 
 pub settle-requires-clause-i_lt_count : goal.settle-requires-clause-i_lt_count
 settle-requires-clause-i_lt_count c =
-    let over = c.requires.one_at.over in
-    (c.requires.one_at.below, over.below, over.below, un_over_size c.requires.live over)
+    let over = c.requires.over in
+    (c.requires.below, over.below, over.below, un_over_size over)
 
 pub settle-requires-clause-settles : goal.settle-requires-clause-settles
-settle-requires-clause-settles c = settles_unary c.requires.live c.requires.one_at.over c.un_act-act.result c.un_act-act.ensures
+settle-requires-clause-settles c =
+    settles_unary c.args.arena.now.live c.requires.over c.un_act-act.result (rw (c.nodes.ensures.words, c.nodes.ensures.count) at c.un_act-act.ensures)
 
-pub returns : goal.returns
-returns c =
-    rw c.outcome_of.ensures
-    (one_ran c.requires.live c.requires.one_at c.settle.new.words c.un_act-act.result c.redoes.result _ c.settle.result
-    c.un_act-act.ensures c.redoes.ensures refl c.settle.ensures)
+pub returns-in_err-root : goal.returns-in_err-root
+returns-in_err-root c =
+    let p = err_from_is_err_and c.from_residual.result c.from_residual.ensures.1 in
+    rw (p.1, p.2)
+    (one_runs c.requires c.un_act-act.result _ _ (rw (c.nodes.ensures.words, c.nodes.ensures.count) at c.un_act-act.ensures) refl c.in_err-root.ensures)

@@ -1,20 +1,22 @@
 -- A rule of two children: its decision, carried out. Assumes nothing.
 use Rattle.std.proofs.Common.{refl}
+use Rattle.std.proofs.lemmas.Result.{err_from_is_err_and}
 use Rattle.acts.specs.Decided.{over_size}
 use Rattle.settle.specs.Settled.{settles_binary}
-use Rattle.settle.specs.Visits.{two_ran}
+use Rattle.settle.specs.Visits.{two_runs}
 use Rattle.settle.proofs.rule.two_rule.Goals as goal
 
 pub settle-requires-clause-i_lt_count : goal.settle-requires-clause-i_lt_count
 settle-requires-clause-i_lt_count c =
-    let over = c.requires.two_at.over in
-    (c.requires.two_at.below, over.left_below, over.right_below, over_size c.requires.live over)
+    let over = c.requires.over in
+    (c.requires.below, over.left_below, over.right_below, over_size over)
 
 pub settle-requires-clause-settles : goal.settle-requires-clause-settles
-settle-requires-clause-settles c = settles_binary c.requires.live c.requires.two_at.over c.bin_act-act.result c.bin_act-act.ensures
+settle-requires-clause-settles c =
+    settles_binary c.args.arena.now.live c.requires.over c.bin_act-act.result (rw (c.nodes.ensures.words, c.nodes.ensures.count) at c.bin_act-act.ensures)
 
-pub returns : goal.returns
-returns c =
-    rw c.outcome_of.ensures
-    (two_ran c.requires.live c.requires.two_at c.settle.new.words c.bin_act-act.result c.redoes.result _ c.settle.result
-    c.bin_act-act.ensures c.redoes.ensures refl c.settle.ensures)
+pub returns-in_err-root : goal.returns-in_err-root
+returns-in_err-root c =
+    let p = err_from_is_err_and c.from_residual.result c.from_residual.ensures.1 in
+    rw (p.1, p.2)
+    (two_runs c.requires c.bin_act-act.result _ _ (rw (c.nodes.ensures.words, c.nodes.ensures.count) at c.bin_act-act.ensures) refl c.in_err-root.ensures)
