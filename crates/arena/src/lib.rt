@@ -89,6 +89,7 @@ impl Nodes<'_> {
     }
 
     /// Whether node i has no children, by its kind alone.
+    #[tactic(auto, using(crate::specs::LiveLaws::leaf_at))]
     pub fn is_leaf(self, i: usize) -> bool
         requires { i < self.count }
         ensures { result ≡ node_is_leaf (node_at self.entry.words.now i) }
@@ -97,6 +98,7 @@ impl Nodes<'_> {
     }
 
     /// The node that a rule has named, near a node whose simplified children are a and b. No rule asks for a leaf's child.
+    #[tactic(auto, using(crate::specs::LiveLaws::left_child_at))]
     pub fn near(self, which: Near, a: usize, b: usize) -> usize
         requires { (a < self.count) × (b < self.count) }
         ensures { (result ≡ near_of which (nodes_of self.entry.count self.entry.words.now) a b) × (result < self.entry.count) }
@@ -138,6 +140,7 @@ impl Arena<'_> {
     }
 
     /// Appends a node, and says where it stands: the one place that writes one.
+    #[tactic(auto, using(crate::specs::Pushed::not_pushed, crate::specs::Pushed::pushed))]
     pub fn push(&mut self, node: Node) -> Result<usize, NoRoom>
         requires new { New (nodes_of self.old.count self.old.words.now) node }
         ensures { Ends self.old self.new (append node (nodes_of self.old.count self.old.words.now)) result }
