@@ -1,12 +1,20 @@
 -- The answers by the check's verdict. Assumes nothing.
-use Rattle.std.specs.Prelude.{List, ◌≡◌, ℕ, Err, Ok, Result}
+use Rattle.std.specs.Prelude.{List, ◌≡◌, refl, ℕ, Err, Ok}
 use Rattle.std.proofs.Math.Path.{ap}
-use Rattle.rules.specs.Call.{ran_on, fits, ended, after_check, words_left, simplified_answer, words_after, SimplifiedAnswer, done}
+use Rattle.rules.specs.Call.{ran_on, fits, ended, after_check, words_left, simplified_answer, words_after, SimplifiedAnswer}
 use Rattle.rules.specs.Run.{Out}
-use Rattle.simplifier.proofs.Refused.{simplify_refused}
 use Rattle.rules.specs.declared.SimplifyError.{SimplifyError}
-use Rattle.tree.specs.Form.{checked, Verdict}
+use Rattle.tree.specs.Form.{checked}
+use Rattle.tree.specs.Rows.{passed, Evaluated}
+use Rattle.tree.specs.declared.EvaluateError.{EvaluateError}
 use Rattle.tree.specs.declared.Refusal.{Refusal}
+
+-- what the check refuses is the answer of every call
+pub simplify_refused : (refusal : Refusal) (next : SimplifiedAnswer) → after_check (Err refusal) next ≡ Err (SimplifyError.Refused refusal)
+simplify_refused refusal next = refl
+
+pub evaluate_refused : (refusal : Refusal) (next : Evaluated) → passed (Err refusal) next ≡ Err (EvaluateError.Refused refusal)
+evaluate_refused refusal next = refl
 
 module _ (words : List ℕ) (count root : ℕ) where
   abbrev o : Out

@@ -6,7 +6,7 @@ use Rattle.std.proofs.Common.{ap₂, ◌∙◌, add-one, length-append, take-app
 use Rattle.std.proofs.Math.Nat.{sub_self}
 use native.Mathlib.Omega.{arith}
 use Rattle.std.proofs.Math.ListN.{take, replicate}
-use Rattle.std.proofs.lemmas.List.{length-replicate, replicate-append-replicate, set_at}
+use Rattle.std.proofs.lemmas.List.{drop-drop, length-replicate, replicate-append-replicate, set_at}
 use Rattle.std.proofs.Math.Seq.{length-take-le}
 
 -- the words from `from` to `to` are zero
@@ -45,3 +45,12 @@ module _ (words : List ℕ) (from : ℕ) where
 
   pub cleared_length : (to : ℕ) → from ≤ to → to ≤ length words → length (cleared words from to) ≡ length words
   cleared_length to h g = ap length (split to) ∙ length-append (head to) (drop to words) ∙ omega (arith, head_length to h g, length-drop to words)
+
+-- zeros in the place of the words from `from` to `to`
+pub zeros_put : (words : List ℕ) (from to : ℕ) → from ≤ to → to ≤ length words →
+    take from words ++ (replicate (length (take (to - from) (drop from words))) 0 ++ drop (to - from) (drop from words)) ≡ cleared words from to
+zeros_put words from to h g =
+    let e : from + (to - from) ≡ to = omega arith in
+    ap₂ (λ (n : ℕ) (rest : List ℕ). take from words ++ (replicate n 0 ++ rest))
+    (length-take-le (to - from) (drop from words) (omega (arith, length-drop from words)))
+    (drop-drop (to - from) from words ∙ ap (λ (n : ℕ). drop n words) e)

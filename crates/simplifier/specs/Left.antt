@@ -7,15 +7,22 @@ use Rattle.arena.specs.Ended.{Ended}
 use Rattle.arena.specs.Live.{Live}
 use Rattle.arena.specs.LiveLaws.{capacity_room}
 use Rattle.arena.specs.Step.{Step}
+use Rattle.arena.specs.declared.NoRoom.{NoRoom}
 use Rattle.format.specs.Limits.{node_words, capacity}
 use Rattle.format.specs.Nodes.{header_of, payload_of}
 use Rattle.format.specs.declared.Node.{Node}
-use Rattle.rules.specs.Call.{words_of, fits, ended, appended_words, cleared_words, SimplifiedAnswer, done}
+use Rattle.rules.specs.Call.{words_of, fits, ended, appended_words, cleared_words, done}
 use Rattle.rules.specs.Run.{Out}
+use Rattle.rules.specs.declared.Simplified.{Simplified}
 use Rattle.rules.specs.declared.SimplifyError.{SimplifyError}
 use Rattle.simplifier.specs.Cleared.{cleared}
 use Rattle.tree.specs.Arena.{node_at, nodes_of}
 use Rattle.tree.specs.ArenaLaws.{length-nodes_of}
+
+-- how a run has ended, by what the code has of it
+abbrev pub step_to : Result Simplified NoRoom → Step
+step_to (Ok to) = Step.Done to.root to.count
+step_to (Err none) = Step.NoRoom
 
 -- lists that agree up to n, and from n on
 take_agree : (n : ℕ) (xs ys : List ℕ) → length xs ≡ length ys → ((k : ℕ) → k < n → get_or xs k 0 ≡ get_or ys k 0) → take n xs ≡ take n ys

@@ -4,6 +4,8 @@ ghost use Rattle.tree.specs.Form.{checked};
 ghost use Rattle.tree.specs.Rows.{evaluated};
 ghost use Rattle.rules.specs.Call.{ran_on, fits, ended, words_left, simplified_answer, words_after};
 ghost use Rattle.arena.specs.Live.{Live};
+ghost use Rattle.arena.specs.Ended.{Ended};
+ghost use Rattle.simplifier.specs.Left.{step_to};
 
 use arena::{Arena, NoRoom, Nodes, capacity};
 use rules::{Simplified, SimplifyError};
@@ -11,25 +13,33 @@ use run::dispatch::dispatch;
 use tree::{EvaluateError, Refusal};
 use words::NODE_WORDS;
 
-// The run on an arena that has passed the check. Without room the words of free nodes are set to zero.
+// The run on an arena that has passed the check: where it ends, or without room.
+fn run(words: &mut [u64], count: usize, root: usize) -> Result<Simplified, NoRoom>
+    requires live { Live words.old count }
+    requires root_lt_count { root < count }
+    ensures { Ended words.old words.new count (ran_on words.old count root) (step_to result) }
+{
+    let mut arena = Arena { words, count };
+    let root = dispatch(&mut arena, root)?;
+    Ok(Simplified {
+        root,
+        count: arena.count,
+    })
+}
+
+// The run, after which the words of the free nodes are zero if there is no room.
 fn rewrite(words: &mut [u64], count: usize, root: usize) -> Result<Simplified, SimplifyError>
     requires live { Live words.old count }
     requires root_lt_count { root < count }
     ensures answer { result ≡ ended (fits words.old (ran_on words.old count root)) (ran_on words.old count root) }
     ensures left { words.new ≡ words_left result words.old count (ran_on words.old count root) }
 {
-    let mut arena = Arena { words, count };
-    match dispatch(&mut arena, root) {
-        Ok(to) => Ok(Simplified {
-            root: to,
-            count: arena.count,
-        }),
-        Err(NoRoom) => {
-            let end = NODE_WORDS * capacity(words.len());
-            words[NODE_WORDS * count..end].fill(0);
-            Err(SimplifyError::NoRoom)
-        }
+    if let Ok(to) = run(words, count, root) {
+        return Ok(to);
     }
+    let end = NODE_WORDS * capacity(words.len());
+    words[NODE_WORDS * count..end].fill(0);
+    Err(SimplifyError::NoRoom)
 }
 
 pub fn check(words: &[u64], count: usize, root: usize) -> Result<(), Refusal>
@@ -38,6 +48,7 @@ pub fn check(words: &[u64], count: usize, root: usize) -> Result<(), Refusal>
     form::check(words, count, root)
 }
 
+#[tactic(auto, using(crate::specs::Answers::refused_answer, crate::specs::Answers::refused_words, crate::specs::Answers::passed_answer, crate::specs::Answers::passed_words))]
 pub fn simplify(words: &mut [u64], count: usize, root: usize) -> Result<Simplified, SimplifyError>
     ensures answer { result ≡ simplified_answer words.old count root }
     ensures left { words.new ≡ words_after words.old count root }
@@ -46,9 +57,15 @@ pub fn simplify(words: &mut [u64], count: usize, root: usize) -> Result<Simplifi
     rewrite(words, count, root)
 }
 
-pub fn evaluate(words: &[u64], count: usize, root: usize, rows: &[u64]) -> Result<u64, EvaluateError>
+#[tactic(auto, using(eval::specs::EvaluatedLaws::evaluated_checked))]
+pub fn evaluate(
+    words: &[u64],
+    count: usize,
+    root: usize,
+    rows: &[u64],
+) -> Result<u64, EvaluateError>
     ensures { result ≡ evaluated words.now count root rows.now }
 {
-    form::check(words, count, root)?;
+    check(words, count, root)?;
     eval::evaluate_checked(Nodes { words, count }, root, rows)
 }
