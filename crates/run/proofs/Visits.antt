@@ -41,9 +41,9 @@ pub leaf_ends : (arena : Arena) (i : ℕ) → i < arena.count → (node : Node) 
     ((op : Bin) (s j k : ℕ) → node ≡ Node.Binary op s j k → ⊥) → Ends arena arena (run_in arena i) (Ok i)
 leaf_ends arena i h node e p q = record { same_reference = refl; ended = ended_leaf arena.live i h node (sym e) (leaf_otherwise node p q) }
 
-pub child_ends : (arena : Arena) (i : ℕ) → i < arena.count → (ready leaf : Bool) → Ready ready (tree_in arena i) → leaf ≡ node_is_leaf (node_at arena.words.now i) →
+pub child_ends : (arena : Arena) (i : ℕ) → i < arena.count → (ready : Bool) → Ready ready (tree_in arena i) → (leaf : Bool) → leaf ≡ node_is_leaf (node_at arena.words.now i) →
     (ready || leaf) ≡ true → Ends arena arena (run_in arena i) (Ok i)
-child_ends arena i h ready leaf p e t = record { same_reference = refl; ended = child_is_itself arena.live i h ready leaf p e t }
+child_ends arena i h ready p leaf e t = record { same_reference = refl; ended = child_is_itself arena.live i h ready leaf p e t }
 
 -- A NODE OF ONE CHILD: its child first, then what comes after it
 
@@ -127,12 +127,6 @@ module _ {old : Arena} {node : Two} (at : TwoStands old node) where
 -- A RULE: what it rebuilds is simplified again
 
 module _ {old : Arena} {node : One} {a : ℕ} (ready : OneReadyIn old node a) (topless : is_top (tree_in old a) ≡ false) {mid : Arena} where
-  pub one_rule_stops : {none : NoRoom} → OneRuns old mid node a (Err none) → Ends old mid (after_one_in old node a) (Err none)
-  one_rule_stops h = record { same_reference = h.same_reference; ended = rw topless h.ran }
-
-  pub one_rule_ends : {root : ℕ} → OneRuns old mid node a (Ok (Outcome.Done root)) → Ends old mid (after_one_in old node a) (Ok root)
-  one_rule_ends h = record { same_reference = h.same_reference; ended = rw topless h.ran.1 }
-
   module _ {root : ℕ} (h : OneRuns old mid node a (Ok (Outcome.Again root))) where
     pub one_rebuilt : (weight (tree_in mid root) < weight (unary node.op node.size (tree_in old a))) × (root < mid.count) × Prepared true (tree_in mid root)
     one_rebuilt =
@@ -151,12 +145,6 @@ module _ {old : Arena} {node : One} {a : ℕ} (ready : OneReadyIn old node a) (t
     }
 
 module _ {old : Arena} {node : Two} {a b : ℕ} (ready : TwoReadyIn old node a b) (topless : (is_top (tree_in old a) || is_top (tree_in old b)) ≡ false) {mid : Arena} where
-  pub two_rule_stops : {none : NoRoom} → TwoRuns old mid node a b (Err none) → Ends old mid (after_two_in old node a b) (Err none)
-  two_rule_stops h = record { same_reference = h.same_reference; ended = rw topless h.ran }
-
-  pub two_rule_ends : {root : ℕ} → TwoRuns old mid node a b (Ok (Outcome.Done root)) → Ends old mid (after_two_in old node a b) (Ok root)
-  two_rule_ends h = record { same_reference = h.same_reference; ended = rw topless h.ran.1 }
-
   module _ {root : ℕ} (h : TwoRuns old mid node a b (Ok (Outcome.Again root))) where
     pub two_rebuilt : (weight (tree_in mid root) < weight (binary node.op node.size (tree_in old a) (tree_in old b))) × (root < mid.count) × Prepared true (tree_in mid root)
     two_rebuilt =

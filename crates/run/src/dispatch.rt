@@ -17,7 +17,7 @@ fn child(arena: &mut Arena<'_>, j: usize, ready: bool) -> Result<usize, NoRoom>
     requires { (j < arena.old.count) × Ready ready (tree_of arena.old.count arena.old.words.now j) }
     ensures { Ends arena.old arena.new (simplified (nodes_of arena.old.count arena.old.words.now) j) result }
 {
-    if ready | arena.nodes().is_leaf(j) {
+    if ready || arena.nodes().is_leaf(j) {
         return Ok(j);
     }
     dispatch(arena, j)

@@ -38,7 +38,7 @@ pub fn after_two(arena: &mut Arena<'_>, node: Two, a: usize, b: usize) -> Result
     requires { TwoReadyIn arena.old node a b }
     ensures { Ends arena.old arena.new (after_two_in arena.old node a b) result }
 {
-    if is_top(arena, a) | is_top(arena, b) {
+    if is_top(arena, a) || is_top(arena, b) {
         return arena.push(Node::Top);
     }
     match two_rule(arena, node, a, b)? {
