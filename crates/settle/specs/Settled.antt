@@ -5,6 +5,7 @@ use Rattle.std.proofs.Common.{arith}
 use Rattle.acts.specs.Operated.{UnaryOver, BinaryOver}
 use Rattle.arena.specs.Live.{Live, New, tree_of}
 use Rattle.arena.specs.LiveLaws.{capacity_few, live_ordered, in_arena}
+use Rattle.arena.specs.declared.Arena.{Arena}
 use Rattle.format.specs.Limits.{max_nodes}
 use Rattle.format.specs.declared.Bin.{Bin}
 use Rattle.format.specs.declared.Node.{Node}
@@ -22,6 +23,9 @@ use Rattle.tree.specs.Arena.{build, nodes_of, tree_at, Ordered}
 use Rattle.tree.specs.ArenaLaws.{length-nodes_of, length_appended, appended_extends, tree_stays, tree_appended}
 use Rattle.tree.specs.Form.{is_size, Sized}
 use Rattle.tree.specs.Tree.{unary, binary}
+
+abbrev pub nodes_in : Arena → List Node
+nodes_in arena = nodes_of arena.count arena.words.now
 
 -- the node that is kept, or another one in its place
 abbrev pub kept_in : (kept : Option ℕ) → Node → List Node → Out
