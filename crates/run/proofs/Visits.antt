@@ -3,28 +3,22 @@ use Rattle.std.specs.Prelude.{Bool, true, false, ◌||◌, ◌≡◌, refl, ℕ,
 use Rattle.std.proofs.Common.{sym, ◌∙◌}
 use Rattle.arena.specs.Ended.{step_of}
 use Rattle.arena.specs.Ends.{Ends}
-use Rattle.arena.specs.Live.{tree_of, node_is_leaf}
+use Rattle.arena.specs.Live.{node_is_leaf}
 use Rattle.arena.specs.declared.Arena.{Arena}
 use Rattle.arena.specs.declared.NoRoom.{NoRoom}
 use Rattle.format.specs.Truth.{or_left, or_right}
 use Rattle.format.specs.declared.Bin.{Bin}
 use Rattle.format.specs.declared.Node.{Node}
 use Rattle.format.specs.declared.Un.{Un}
-use Rattle.rules.specs.Run.{Out, weight, simplified}
-use Rattle.run.specs.Ready.{OneStands, TwoStands, OneReadyIn, TwoReadyIn, Ready, Prepared, after_one_in, after_two_in, one_at, two_at, one_ready, right_child, two_ready, ended_leaf, child_is_itself, one_child_ready, left_child_ready, right_child_ready}
+use Rattle.rules.specs.Run.{weight}
+use Rattle.run.specs.Ready.{tree_in, simplified_in, OneStands, TwoStands, OneReadyIn, TwoReadyIn, Ready, Prepared, after_one_in, after_two_in, one_at, two_at, one_ready, right_child, two_ready, ended_leaf, child_is_itself, one_child_ready, left_child_ready, right_child_ready}
 use Rattle.settle.specs.Chains.{unary_child, unary_lighter, unary_unfinished, unary_ended, binary_children, right_lighter, binary_lighter, left_unfinished, right_unfinished, binary_ended}
 use Rattle.settle.specs.Visits.{OneRuns, TwoRuns, one_again_ended, one_again_falls, one_again_over_normal, two_again_ended, two_again_falls, two_again_over_normal}
 use Rattle.settle.specs.declared.rule.One.{One}
 use Rattle.settle.specs.declared.rule.Outcome.{Outcome}
 use Rattle.settle.specs.declared.rule.Two.{Two}
-use Rattle.tree.specs.Arena.{node_at, nodes_of}
-use Rattle.tree.specs.Tree.{Tree, unary, binary, is_top}
-
-abbrev pub tree_in : Arena → ℕ → Tree
-tree_in arena i = tree_of arena.count arena.words.now i
-
-abbrev pub run_in : Arena → ℕ → Out
-run_in arena i = simplified (nodes_of arena.count arena.words.now) i
+use Rattle.tree.specs.Arena.{node_at}
+use Rattle.tree.specs.Tree.{unary, binary, is_top}
 
 -- A LEAF IS ITSELF, and so is a tree that is simplified already
 
@@ -38,12 +32,12 @@ leaf_otherwise (Node.Unary op s j) p q = absurd (p op s j refl)
 leaf_otherwise (Node.Binary op s j k) p q = absurd (q op s j k refl)
 
 pub leaf_ends : (arena : Arena) (i : ℕ) → i < arena.count → (node : Node) → node ≡ node_at arena.words.now i → ((op : Un) (s j : ℕ) → node ≡ Node.Unary op s j → ⊥) →
-    ((op : Bin) (s j k : ℕ) → node ≡ Node.Binary op s j k → ⊥) → Ends arena arena (run_in arena i) (Ok i)
+    ((op : Bin) (s j k : ℕ) → node ≡ Node.Binary op s j k → ⊥) → Ends arena arena (simplified_in arena i) (Ok i)
 leaf_ends arena i h node e p q = record { same_reference = refl; ended = ended_leaf arena.live i h node (sym e) (leaf_otherwise node p q) }
 
-pub child_ends : (arena : Arena) (i : ℕ) → i < arena.count → (ready leaf : Bool) → Ready ready (tree_in arena i) → leaf ≡ node_is_leaf (node_at arena.words.now i) →
-    (ready || leaf) ≡ true → Ends arena arena (run_in arena i) (Ok i)
-child_ends arena i h ready leaf p e t = record { same_reference = refl; ended = child_is_itself arena.live i h ready leaf p e t }
+pub child_ends : (arena : Arena) (i : ℕ) → i < arena.count → (ready : Bool) → Ready ready (tree_in arena i) → (leaf : Bool) → leaf ≡ node_is_leaf (node_at arena.words.now i) →
+    (ready || leaf) ≡ true → Ends arena arena (simplified_in arena i) (Ok i)
+child_ends arena i h ready p leaf e t = record { same_reference = refl; ended = child_is_itself arena.live i h ready leaf p e t }
 
 -- A NODE OF ONE CHILD: its child first, then what comes after it
 
@@ -54,20 +48,20 @@ one_child old node at ready p =
     (child.1, child.0, one_child_ready old.live node.index at.0 node.op node.size node.left at.1 ready p)
 
 module _ {old : Arena} {node : One} (at : OneStands old node) where
-  pub one_stops : {mid : Arena} {none : NoRoom} → Ends old mid (run_in old node.left) (Err none) → Ends old mid (run_in old node.index) (Err none)
+  pub one_stops : {mid : Arena} {none : NoRoom} → Ends old mid (simplified_in old node.left) (Err none) → Ends old mid (simplified_in old node.index) (Err none)
   one_stops {mid} h = record {
     same_reference = h.same_reference;
     ended = unary_unfinished old.live node.index at.0 node.op node.size node.left at.1 mid.words.now h.ended;
   }
 
-  module _ {mid : Arena} {a : ℕ} (h : Ends old mid (run_in old node.left) (Ok a)) where
+  module _ {mid : Arena} {a : ℕ} (h : Ends old mid (simplified_in old node.left) (Ok a)) where
     pub one_next : (weight (unary node.op node.size (tree_in mid a)) ≤ weight (tree_in old node.index)) × OneReadyIn mid node a
     one_next = (
       unary_lighter old.live node.index at.0 node.op node.size node.left at.1 mid.words.now a mid.count h.ended,
       one_ready old.live node.index at.0 node.op node.size node.left at.1 mid.words.now a mid.count h.ended,
     )
 
-    pub one_ends : {new : Arena} {root : Result ℕ NoRoom} → Ends mid new (after_one_in mid node a) root → Ends old new (run_in old node.index) root
+    pub one_ends : {new : Arena} {root : Result ℕ NoRoom} → Ends mid new (after_one_in mid node a) root → Ends old new (simplified_in old node.index) root
     one_ends {new} {root} g = record {
       same_reference = g.same_reference ∙ h.same_reference;
       ended =
@@ -84,13 +78,13 @@ left_child old node at ready p =
     (children.2, children.0, left_child_ready old.live node.index at.0 node.op node.size node.left node.right at.1 ready p)
 
 module _ {old : Arena} {node : Two} (at : TwoStands old node) where
-  pub left_stops : {mid : Arena} {none : NoRoom} → Ends old mid (run_in old node.left) (Err none) → Ends old mid (run_in old node.index) (Err none)
+  pub left_stops : {mid : Arena} {none : NoRoom} → Ends old mid (simplified_in old node.left) (Err none) → Ends old mid (simplified_in old node.index) (Err none)
   left_stops {mid} h = record {
     same_reference = h.same_reference;
     ended = left_unfinished old.live node.index at.0 node.op node.size node.left node.right at.1 mid.words.now h.ended;
   }
 
-  module _ {mid : Arena} {a : ℕ} (h : Ends old mid (run_in old node.left) (Ok a)) where
+  module _ {mid : Arena} {a : ℕ} (h : Ends old mid (simplified_in old node.left) (Ok a)) where
     pub right_child_in : (ready : Bool) → Prepared ready (tree_in old node.index) →
         (weight (tree_in mid node.right) < weight (tree_in old node.index)) × (node.right < mid.count) × Ready ready (tree_in mid node.right)
     right_child_in ready p = (
@@ -99,7 +93,7 @@ module _ {old : Arena} {node : Two} (at : TwoStands old node) where
       right_child_ready old.live node.index at.0 node.op node.size node.left node.right at.1 mid.words.now a mid.count h.ended ready p,
     )
 
-    pub right_stops : {late : Arena} {none : NoRoom} → Ends mid late (run_in mid node.right) (Err none) → Ends old late (run_in old node.index) (Err none)
+    pub right_stops : {late : Arena} {none : NoRoom} → Ends mid late (simplified_in mid node.right) (Err none) → Ends old late (simplified_in old node.index) (Err none)
     right_stops {late} g = record {
       same_reference = g.same_reference ∙ h.same_reference;
       ended =
@@ -107,7 +101,7 @@ module _ {old : Arena} {node : Two} (at : TwoStands old node) where
           late.words.now g.ended;
     }
 
-    module _ {late : Arena} {b : ℕ} (g : Ends mid late (run_in mid node.right) (Ok b)) where
+    module _ {late : Arena} {b : ℕ} (g : Ends mid late (simplified_in mid node.right) (Ok b)) where
       pub two_next : (weight (binary node.op node.size (tree_in late a) (tree_in late b)) ≤ weight (tree_in old node.index)) × TwoReadyIn late node a b
       two_next = (
         binary_lighter old.live node.index at.0 node.op node.size node.left node.right at.1 mid.words.now a mid.count h.ended
@@ -116,7 +110,7 @@ module _ {old : Arena} {node : Two} (at : TwoStands old node) where
             late.words.now b late.count g.ended,
       )
 
-      pub two_ends : {new : Arena} {root : Result ℕ NoRoom} → Ends late new (after_two_in late node a b) root → Ends old new (run_in old node.index) root
+      pub two_ends : {new : Arena} {root : Result ℕ NoRoom} → Ends late new (after_two_in late node a b) root → Ends old new (simplified_in old node.index) root
       two_ends {new} {root} r = record {
         same_reference = r.same_reference ∙ g.same_reference ∙ h.same_reference;
         ended =
@@ -127,12 +121,6 @@ module _ {old : Arena} {node : Two} (at : TwoStands old node) where
 -- A RULE: what it rebuilds is simplified again
 
 module _ {old : Arena} {node : One} {a : ℕ} (ready : OneReadyIn old node a) (topless : is_top (tree_in old a) ≡ false) {mid : Arena} where
-  pub one_rule_stops : {none : NoRoom} → OneRuns old mid node a (Err none) → Ends old mid (after_one_in old node a) (Err none)
-  one_rule_stops h = record { same_reference = h.same_reference; ended = rw topless h.ran }
-
-  pub one_rule_ends : {root : ℕ} → OneRuns old mid node a (Ok (Outcome.Done root)) → Ends old mid (after_one_in old node a) (Ok root)
-  one_rule_ends h = record { same_reference = h.same_reference; ended = rw topless h.ran.1 }
-
   module _ {root : ℕ} (h : OneRuns old mid node a (Ok (Outcome.Again root))) where
     pub one_rebuilt : (weight (tree_in mid root) < weight (unary node.op node.size (tree_in old a))) × (root < mid.count) × Prepared true (tree_in mid root)
     one_rebuilt =
@@ -142,7 +130,7 @@ module _ {old : Arena} {node : One} {a : ℕ} (ready : OneReadyIn old node a) (t
           one_again_over_normal old.live at mid.words.now root mid.count h.ran,
         )
 
-    pub one_again_ends : {new : Arena} {end : Result ℕ NoRoom} → Ends mid new (run_in mid root) end → Ends old new (after_one_in old node a) end
+    pub one_again_ends : {new : Arena} {end : Result ℕ NoRoom} → Ends mid new (simplified_in mid root) end → Ends old new (after_one_in old node a) end
     one_again_ends {new} {end} g = record {
       same_reference = g.same_reference ∙ h.same_reference;
       ended =
@@ -151,12 +139,6 @@ module _ {old : Arena} {node : One} {a : ℕ} (ready : OneReadyIn old node a) (t
     }
 
 module _ {old : Arena} {node : Two} {a b : ℕ} (ready : TwoReadyIn old node a b) (topless : (is_top (tree_in old a) || is_top (tree_in old b)) ≡ false) {mid : Arena} where
-  pub two_rule_stops : {none : NoRoom} → TwoRuns old mid node a b (Err none) → Ends old mid (after_two_in old node a b) (Err none)
-  two_rule_stops h = record { same_reference = h.same_reference; ended = rw topless h.ran }
-
-  pub two_rule_ends : {root : ℕ} → TwoRuns old mid node a b (Ok (Outcome.Done root)) → Ends old mid (after_two_in old node a b) (Ok root)
-  two_rule_ends h = record { same_reference = h.same_reference; ended = rw topless h.ran.1 }
-
   module _ {root : ℕ} (h : TwoRuns old mid node a b (Ok (Outcome.Again root))) where
     pub two_rebuilt : (weight (tree_in mid root) < weight (binary node.op node.size (tree_in old a) (tree_in old b))) × (root < mid.count) × Prepared true (tree_in mid root)
     two_rebuilt =
@@ -166,7 +148,7 @@ module _ {old : Arena} {node : Two} {a b : ℕ} (ready : TwoReadyIn old node a b
           two_again_over_normal old.live at mid.words.now root mid.count h.ran,
         )
 
-    pub two_again_ends : {new : Arena} {end : Result ℕ NoRoom} → Ends mid new (run_in mid root) end → Ends old new (after_two_in old node a b) end
+    pub two_again_ends : {new : Arena} {end : Result ℕ NoRoom} → Ends mid new (simplified_in mid root) end → Ends old new (after_two_in old node a b) end
     two_again_ends {new} {end} g = record {
       same_reference = g.same_reference ∙ h.same_reference;
       ended =

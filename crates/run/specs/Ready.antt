@@ -66,6 +66,12 @@ after_two words count i op s j k a b =
 
 -- THE SAME OF AN ARENA, and a node of it
 
+abbrev pub tree_in : Arena → ℕ → Tree
+tree_in arena i = tree_of arena.count arena.words.now i
+
+abbrev pub simplified_in : Arena → ℕ → Out
+simplified_in arena i = simplified (nodes_of arena.count arena.words.now) i
+
 abbrev pub OneStands : Arena → One → Type 0
 OneStands arena node = (node.index < arena.count) × (node_at arena.words.now node.index ≡ Node.Unary node.op node.size node.left)
 

@@ -1,10 +1,7 @@
 // Dispatch: a node's children are simplified, left before right, then its rule decides.
-ghost use Rattle.std.specs.Prelude.{◌≡◌, ◌<◌};
-ghost use Rattle.tree.specs.Arena.{nodes_of};
-ghost use Rattle.rules.specs.Run.{simplified};
-ghost use Rattle.arena.specs.Live.{tree_of};
+ghost use Rattle.std.specs.Prelude.{◌<◌};
 ghost use Rattle.arena.specs.Ends.{Ends};
-ghost use Rattle.run.specs.Ready.{OneStands, TwoStands, Ready, Prepared};
+ghost use Rattle.run.specs.Ready.{tree_in, simplified_in, OneStands, TwoStands, Ready, Prepared};
 
 use crate::rule::{after_one, after_two};
 use arena::{Arena, NoRoom};
@@ -14,10 +11,10 @@ use settle::rule::{One, Two};
 // Simplifies a child. One that is `ready` is simplified already, and a leaf is itself: neither is worth a visit.
 #[cycle(visits)]
 fn child(arena: &mut Arena<'_>, j: usize, ready: bool) -> Result<usize, NoRoom>
-    requires { (j < arena.old.count) × Ready ready (tree_of arena.old.count arena.old.words.now j) }
-    ensures { Ends arena.old arena.new (simplified (nodes_of arena.old.count arena.old.words.now) j) result }
+    requires { (j < arena.old.count) × Ready ready (tree_in arena.old j) }
+    ensures { Ends arena.old arena.new (simplified_in arena.old j) result }
 {
-    if ready | arena.nodes().is_leaf(j) {
+    if ready || arena.nodes().is_leaf(j) {
         return Ok(j);
     }
     dispatch(arena, j)
@@ -25,8 +22,8 @@ fn child(arena: &mut Arena<'_>, j: usize, ready: bool) -> Result<usize, NoRoom>
 
 #[cycle(visits)]
 fn visit_one(arena: &mut Arena<'_>, node: One, ready: bool) -> Result<usize, NoRoom>
-    requires { OneStands arena.old node × Prepared ready (tree_of arena.old.count arena.old.words.now node.index) }
-    ensures { Ends arena.old arena.new (simplified (nodes_of arena.old.count arena.old.words.now) node.index) result }
+    requires { OneStands arena.old node × Prepared ready (tree_in arena.old node.index) }
+    ensures { Ends arena.old arena.new (simplified_in arena.old node.index) result }
 {
     let a = child(arena, node.left, ready)?;
     after_one(arena, node, a)
@@ -35,8 +32,8 @@ fn visit_one(arena: &mut Arena<'_>, node: One, ready: bool) -> Result<usize, NoR
 // The left child first, then the right one.
 #[cycle(visits)]
 fn visit_two(arena: &mut Arena<'_>, node: Two, ready: bool) -> Result<usize, NoRoom>
-    requires { TwoStands arena.old node × Prepared ready (tree_of arena.old.count arena.old.words.now node.index) }
-    ensures { Ends arena.old arena.new (simplified (nodes_of arena.old.count arena.old.words.now) node.index) result }
+    requires { TwoStands arena.old node × Prepared ready (tree_in arena.old node.index) }
+    ensures { Ends arena.old arena.new (simplified_in arena.old node.index) result }
 {
     let a = child(arena, node.left, ready)?;
     let b = child(arena, node.right, ready)?;
@@ -47,8 +44,8 @@ fn visit_two(arena: &mut Arena<'_>, node: Two, ready: bool) -> Result<usize, NoR
 // would append nothing and return their indices.
 #[cycle(visits)]
 pub fn visit(arena: &mut Arena<'_>, i: usize, ready: bool) -> Result<usize, NoRoom>
-    requires { (i < arena.old.count) × Prepared ready (tree_of arena.old.count arena.old.words.now i) }
-    ensures { Ends arena.old arena.new (simplified (nodes_of arena.old.count arena.old.words.now) i) result }
+    requires { (i < arena.old.count) × Prepared ready (tree_in arena.old i) }
+    ensures { Ends arena.old arena.new (simplified_in arena.old i) result }
 {
     match arena.nodes().node(i) {
         Node::Unary(op, size, left) => {
@@ -78,7 +75,7 @@ pub fn visit(arena: &mut Arena<'_>, i: usize, ready: bool) -> Result<usize, NoRo
 #[cycle(visits)]
 pub fn dispatch(arena: &mut Arena<'_>, i: usize) -> Result<usize, NoRoom>
     requires { i < arena.old.count }
-    ensures { Ends arena.old arena.new (simplified (nodes_of arena.old.count arena.old.words.now) i) result }
+    ensures { Ends arena.old arena.new (simplified_in arena.old i) result }
 {
     visit(arena, i, false)
 }

@@ -1,9 +1,8 @@
 // The rules: a node with a Top among its simplified children becomes Top, and what a rule rebuilds is simplified again.
 ghost use Rattle.std.specs.Prelude.{◌≡◌, ◌<◌};
 ghost use Rattle.tree.specs.Tree.{is_top};
-ghost use Rattle.arena.specs.Live.{tree_of};
 ghost use Rattle.arena.specs.Ends.{Ends};
-ghost use Rattle.run.specs.Ready.{OneReadyIn, TwoReadyIn, after_one_in, after_two_in};
+ghost use Rattle.run.specs.Ready.{tree_in, OneReadyIn, TwoReadyIn, after_one_in, after_two_in};
 
 use crate::dispatch::visit;
 use arena::{Arena, NoRoom};
@@ -12,7 +11,7 @@ use settle::rule::{One, Outcome, Two, one_rule, two_rule};
 
 fn is_top(arena: &Arena<'_>, i: usize) -> bool
     requires { i < arena.now.count }
-    ensures { result ≡ is_top (tree_of arena.now.count arena.now.words.now i) }
+    ensures { result ≡ is_top (tree_in arena.now i) }
 {
     arena.nodes().node(i).is_top()
 }
@@ -38,7 +37,7 @@ pub fn after_two(arena: &mut Arena<'_>, node: Two, a: usize, b: usize) -> Result
     requires { TwoReadyIn arena.old node a b }
     ensures { Ends arena.old arena.new (after_two_in arena.old node a b) result }
 {
-    if is_top(arena, a) | is_top(arena, b) {
+    if is_top(arena, a) || is_top(arena, b) {
         return arena.push(Node::Top);
     }
     match two_rule(arena, node, a, b)? {

@@ -1,15 +1,17 @@
 -- What the writer may append: the nodes that an action makes are new to the arena. Assumes nothing.
-use Rattle.std.specs.Prelude.{Bool, true, List, [], ◌∷◌, ◌++◌, ◌≡◌, ℕ, ◌^◌, ◌≤◌, ◌<◌, length}
+use Rattle.std.specs.Bool.{then_some}
+use Rattle.std.specs.Prelude.{Bool, true, false, Option, Some, None, refl, List, [], ◌∷◌, ◌++◌, ◌≡◌, ℕ, ◌^◌, ◌≤◌, ◌<◌, length}
 use Rattle.std.proofs.Common.{arith}
 use Rattle.acts.specs.Operated.{UnaryOver, BinaryOver}
 use Rattle.arena.specs.Live.{Live, New, tree_of}
 use Rattle.arena.specs.LiveLaws.{capacity_few, live_ordered, in_arena}
+use Rattle.arena.specs.declared.Arena.{Arena}
 use Rattle.format.specs.Limits.{max_nodes}
 use Rattle.format.specs.declared.Bin.{Bin}
 use Rattle.format.specs.declared.Node.{Node}
 use Rattle.format.specs.declared.Un.{Un}
 use Rattle.rules.specs.Rules.{bin_act, un_act}
-use Rattle.rules.specs.Run.{Out, append, kept_as, make_const, near}
+use Rattle.rules.specs.Run.{Out, out, append, kept_as, make_const, near}
 use Rattle.rules.specs.declared.Act.{Act}
 use Rattle.theory.specs.Simulation.{near_stands}
 use Rattle.theory.specs.Sizes.{size_bounds, bin_is_size, un_is_size}
@@ -22,9 +24,21 @@ use Rattle.tree.specs.ArenaLaws.{length-nodes_of, length_appended, appended_exte
 use Rattle.tree.specs.Form.{is_size, Sized}
 use Rattle.tree.specs.Tree.{unary, binary}
 
+abbrev pub nodes_in : Arena → List Node
+nodes_in arena = nodes_of arena.count arena.words.now
+
+-- the node that is kept, or another one in its place
+abbrev pub kept_in : (kept : Option ℕ) → Node → List Node → Out
+kept_in (Some i) node arena = out arena i
+kept_in None node arena = append node arena
+
+pub kept_same : (same : Bool) (i : ℕ) (node : Node) (arena : List Node) → kept_in (then_some same i) node arena ≡ kept_as same i node arena
+kept_same true i node arena = refl
+kept_same false i node arena = refl
+
 -- what an action makes of the arena, short of simplifying again
-abbrev pub settled : Act → (kept : Bool) → (i : ℕ) → (over : ℕ → ℕ → Node) → ℕ → List Node → (a b : ℕ) → Out
-settled act kept i over s arena a b = carried act (kept_as kept i (over a b) arena) (append (over b a) arena) s arena a b
+abbrev pub settled : Act → (kept : Option ℕ) → (over : ℕ → ℕ → Node) → ℕ → List Node → (a b : ℕ) → Out
+settled act kept over s arena a b = carried act (kept_in kept (over a b) arena) (append (over b a) arena) s arena a b
 
 -- each node that the action appends is new
 abbrev pub Settles : List Node → Act → (own swapped : Node) → (s a b : ℕ) → Type 0

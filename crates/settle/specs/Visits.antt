@@ -1,5 +1,6 @@
 -- What a rule is called on, and what it leaves. Assumes nothing.
-use Rattle.std.specs.Prelude.{Bool, true, false, ◌&&◌, List, ◌≡◌, refl, ℕ, ◌<◌, eqb, Result, Ok, Err}
+use Rattle.std.specs.Bool.{then_some}
+use Rattle.std.specs.Prelude.{Bool, true, false, ◌&&◌, List, ◌≡◌, refl, ℕ, ◌<◌, eqb, Result, Ok, Err, Option}
 use Rattle.std.proofs.Common.{sym}
 use Rattle.acts.specs.Operated.{UnaryOver, BinaryOver}
 use Rattle.arena.specs.Ended.{Ended, step_of}
@@ -15,7 +16,7 @@ use Rattle.rules.specs.Rules.{bin_act, un_act}
 use Rattle.rules.specs.Run.{Out, append, kept_as, unary_run, binary_run, weight, simplified}
 use Rattle.rules.specs.declared.Act.{Act}
 use Rattle.settle.specs.Chains.{two_unfinished, two_done, two_again, two_falls, two_redo_over_normal, one_unfinished, one_done, one_again, one_redo_falls, one_redo_over_normal}
-use Rattle.settle.specs.Settled.{settled}
+use Rattle.settle.specs.Settled.{settled, kept_same}
 use Rattle.settle.specs.declared.rule.One.{One}
 use Rattle.settle.specs.declared.rule.Outcome.{Outcome}
 use Rattle.settle.specs.declared.rule.Two.{Two}
@@ -171,19 +172,21 @@ module _ {words : List ℕ} {count : ℕ} (live : Live words count) where
 
 -- THE RULE IN CODE: a decision, and the writer's run of it
 
-pub one_runs : {old new : Arena} {node : One} {a : ℕ} → OneIn old node a → (act : Act) (again : Bool) (root : Result ℕ NoRoom) →
-    act ≡ un_act node.op node.size (tree_of old.count old.words.now a) → again ≡ redoes act →
-    Ends old new (settled act (eqb a node.left) node.index (λ x y. Node.Unary node.op node.size x) node.size (nodes_of old.count old.words.now) a a) root →
+pub one_runs : {old new : Arena} {node : One} {a : ℕ} → OneIn old node a → (act : Act) (again : Bool) (kept : Option ℕ) (root : Result ℕ NoRoom) →
+    act ≡ un_act node.op node.size (tree_of old.count old.words.now a) → again ≡ redoes act → kept ≡ then_some (eqb a node.left) node.index →
+    Ends old new (settled act kept (λ x y. Node.Unary node.op node.size x) node.size (nodes_of old.count old.words.now) a a) root →
     OneRuns old new node a (outcome_as again root)
-one_runs {old} {new} {node} {a} at act again root p q h =
-    record { same_reference = h.same_reference; ran = one_ran old.live at new.words.now new.count act again (eqb a node.left) root p q refl h.ended }
+one_runs {old} {new} {node} {a} at act again kept root p q r h =
+    let same = eqb a node.left in
+    let stays = kept_same same node.index (Node.Unary node.op node.size a) (nodes_of old.count old.words.now) in
+    record { same_reference = h.same_reference; ran = one_ran old.live at new.words.now new.count act again same root p q refl (rw (r, stays) at h.ended) }
 
-pub two_runs : {old new : Arena} {node : Two} {a b : ℕ} → TwoIn old node a b → (act : Act) (again : Bool) (root : Result ℕ NoRoom) →
+pub two_runs : {old new : Arena} {node : Two} {a b : ℕ} → TwoIn old node a b → (act : Act) (again : Bool) (kept : Option ℕ) (root : Result ℕ NoRoom) →
     act ≡ bin_act node.op node.size (tree_of old.count old.words.now a) (tree_of old.count old.words.now b) → again ≡ redoes act →
-    Ends old new (settled act (eqb a node.left && eqb b node.right) node.index (Node.Binary node.op node.size) node.size (nodes_of old.count old.words.now) a b) root →
+    kept ≡ then_some (eqb a node.left && eqb b node.right) node.index →
+    Ends old new (settled act kept (Node.Binary node.op node.size) node.size (nodes_of old.count old.words.now) a b) root →
     TwoRuns old new node a b (outcome_as again root)
-two_runs {old} {new} {node} {a} {b} at act again root p q h =
-    record {
-      same_reference = h.same_reference;
-      ran = two_ran old.live at new.words.now new.count act again (eqb a node.left && eqb b node.right) root p q refl h.ended;
-    }
+two_runs {old} {new} {node} {a} {b} at act again kept root p q r h =
+    let same = eqb a node.left && eqb b node.right in
+    let stays = kept_same same node.index (Node.Binary node.op node.size a b) (nodes_of old.count old.words.now) in
+    record { same_reference = h.same_reference; ran = two_ran old.live at new.words.now new.count act again same root p q refl (rw (r, stays) at h.ended) }

@@ -57,8 +57,8 @@ pub fn one_rule(arena: &mut Arena<'_>, node: One, a: usize) -> Result<Outcome, N
     ensures { OneRuns arena.old arena.new node a result }
 {
     let act = decide::un_act(arena.nodes(), node.op, node.size, a);
-    let kept = a == node.left;
-    let root = settle(arena, node.index, act, kept, node.op, node.size, a, a)?;
+    let kept = (a == node.left).then_some(node.index);
+    let root = settle(arena, act, kept, node.op, node.size, a, a)?;
     Ok(outcome_of(redoes(act), root))
 }
 
@@ -68,7 +68,7 @@ pub fn two_rule(arena: &mut Arena<'_>, node: Two, a: usize, b: usize) -> Result<
     ensures { TwoRuns arena.old arena.new node a b result }
 {
     let act = decide::bin_act(arena.nodes(), node.op, node.size, a, b);
-    let kept = (a == node.left) & (b == node.right);
-    let root = settle(arena, node.index, act, kept, node.op, node.size, a, b)?;
+    let kept = ((a == node.left) & (b == node.right)).then_some(node.index);
+    let root = settle(arena, act, kept, node.op, node.size, a, b)?;
     Ok(outcome_of(redoes(act), root))
 }

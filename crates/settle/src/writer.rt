@@ -1,12 +1,12 @@
 // The writer: carries a decision out.
 ghost use Rattle.std.specs.Prelude.{◌≡◌, ◌<◌, ℕ};
+ghost use Rattle.std.specs.Option.{ForSome};
 ghost use Rattle.format.specs.declared.Node.{Node};
-ghost use Rattle.tree.specs.Arena.{nodes_of};
 ghost use Rattle.rules.specs.Run.{append, make_const};
 ghost use Rattle.arith.specs.Operands.{Size};
 ghost use Rattle.arena.specs.Live.{New};
 ghost use Rattle.arena.specs.Ends.{Ends};
-ghost use Rattle.settle.specs.Settled.{settled, Settles};
+ghost use Rattle.settle.specs.Settled.{nodes_in, settled, Settles};
 
 use arena::{Arena, NoRoom};
 use format::{Bin, Node, Un};
@@ -40,31 +40,33 @@ impl Operator for Bin {
 
 fn push_const(arena: &mut Arena<'_>, size: u64, v: u64) -> Result<usize, NoRoom>
     requires size { Size size }
-    requires new { New (nodes_of arena.old.count arena.old.words.now) (make_const size v) }
-    ensures { Ends arena.old arena.new (append (make_const size v) (nodes_of arena.old.count arena.old.words.now)) result }
+    requires new { New (nodes_in arena.old) (make_const size v) }
+    ensures { Ends arena.old arena.new (append (make_const size v) (nodes_in arena.old)) result }
 {
     arena.push(make_const(size, v))
 }
 
-// Carries an action out on node i, short of simplifying again. Its simplified children are a and b, and `kept` is whether it
-// has them still.
+// Carries an action out on a node, short of simplifying again. Its simplified children are a and b, and where it has them
+// still, `kept` is its index.
 pub fn settle<O: Operator>(
     arena: &mut Arena<'_>,
-    i: usize,
     act: Act,
-    kept: bool,
+    kept: Option<usize>,
     op: O,
     size: u64,
     a: usize,
     b: usize,
 ) -> Result<usize, NoRoom>
-    requires i_lt_count { (i < arena.old.count) × (a < arena.old.count) × (b < arena.old.count) × Size size }
-    requires settles { Settles (nodes_of arena.old.count arena.old.words.now) act (O.over_of op size a b) (O.over_of op size b a) size a b }
-    ensures { Ends arena.old arena.new (settled act kept i (O.over_of op size) size (nodes_of arena.old.count arena.old.words.now) a b) result }
+    requires kept_lt_count { ForSome kept (λ i. i < arena.old.count) }
+    requires a_lt_count { (a < arena.old.count) × (b < arena.old.count) × Size size }
+    requires settles { Settles (nodes_in arena.old) act (O.over_of op size a b) (O.over_of op size b a) size a b }
+    ensures { Ends arena.old arena.new (settled act kept (O.over_of op size) size (nodes_in arena.old) a b) result }
 {
     match act {
-        Act::Keep if kept => Ok(i),
-        Act::Keep => arena.push(op.over(size, a, b)),
+        Act::Keep => match kept {
+            Some(i) => Ok(i),
+            None => arena.push(op.over(size, a, b)),
+        },
         Act::Swap => arena.push(op.over(size, b, a)),
         Act::Give(which) => Ok(arena.nodes().near(which, a, b)),
         Act::Make(v) => push_const(arena, size, v),

@@ -1,16 +1,22 @@
 -- Each call of the cycle ends as the run's definition says, and calls only what is lighter. Assumes nothing.
-use Rattle.std.proofs.Common.{sym, ◌∙◌, arith}
+use Rattle.std.proofs.Common.{refl, sym, ◌∙◌, arith}
 use Rattle.std.proofs.lemmas.Result.{err_from_is_err_and}
-use Rattle.format.specs.Truth.{or_left, or_right}
+use Rattle.format.specs.Truth.{or_neither}
 use Rattle.run.proofs.Visits.{leaf_ends, child_ends, one_child, one_stops, one_next, one_ends, left_child, left_stops, right_child_in, right_stops, two_next, two_ends, one_rebuilt, one_again_ends, two_rebuilt, two_again_ends}
 use Rattle.run.specs.Ready.{one_at, two_at}
 use Rattle.run.proofs.+visits.Goals as goal
+use Rattle.run.proofs.+visits.Goals.{dispatch::child-then-ready-via-then-ready, dispatch::child-then-ready-via-else-ready+then-is_leaf}
 
 -- CHILDREN AND LEAVES
 
-pub dispatch::child-returns-then-ready-is_leaf : goal.dispatch::child-returns-then-ready-is_leaf
-dispatch::child-returns-then-ready-is_leaf t c =
-    child_ends c.args.arena.now c.args.j c.requires.0 c.args.ready c.is_leaf.result c.requires.1 (rw c.nodes.ensures.words at c.is_leaf.ensures) c.if-ready-is_leaf.true
+pub dispatch::child-returns-then-ready : goal.dispatch::child-returns-then-ready
+dispatch::child-returns-then-ready t c =
+    let ends = child_ends c.args.arena.now c.args.j c.requires.0 c.args.ready c.requires.1 in
+    elim c.then-ready.branch [
+      | dispatch::child-then-ready-via-then-ready w ↦ ends _ refl (rw w.if-ready.true refl)
+      | dispatch::child-then-ready-via-else-ready+then-is_leaf w ↦
+          ends w.is_leaf.result (rw w.nodes.ensures.words at w.is_leaf.ensures) (rw (w.if-ready.false, w.if-is_leaf.true) refl)
+    ]
 
 pub dispatch::visit-returns-in_default : goal.dispatch::visit-returns-in_default
 dispatch::visit-returns-in_default t c =
@@ -81,16 +87,15 @@ rule::after_one-returns-in-Again t c = one_again_ends c.requires (sym c.is_top.e
 
 pub rule::after_two-two_rule-requires : goal.rule::after_two-two_rule-requires
 rule::after_two-two_rule-requires t c =
-    let topless = rw (c.is_top.ensures, c.is_top-2.ensures) at c.if-is_top.false in
-    two_at c.requires (or_left _ _ topless) (or_right _ _ topless)
+    two_at c.requires (sym c.is_top.ensures ∙ c.if-is_top.false) (sym c.is_top-else-is_top.ensures ∙ c.if-is_top-2.false)
 
 pub rule::after_two-visit-requires : goal.rule::after_two-visit-requires
 rule::after_two-visit-requires t c =
-    let topless = rw (c.is_top.ensures, c.is_top-2.ensures) at c.if-is_top.false in
+    let topless = or_neither _ _ (sym c.is_top.ensures ∙ c.if-is_top.false) (sym c.is_top-else-is_top.ensures ∙ c.if-is_top-2.false) in
     let rebuilt = two_rebuilt c.requires topless (rw c.in-Again.is at c.in_ok-root.ensures) in
     (omega (arith, rebuilt.0), (rebuilt.1, rebuilt.2))
 
 pub rule::after_two-returns-in-Again : goal.rule::after_two-returns-in-Again
 rule::after_two-returns-in-Again t c =
-    let topless = rw (c.is_top.ensures, c.is_top-2.ensures) at c.if-is_top.false in
+    let topless = or_neither _ _ (sym c.is_top.ensures ∙ c.if-is_top.false) (sym c.is_top-else-is_top.ensures ∙ c.if-is_top-2.false) in
     two_again_ends c.requires topless (rw c.in-Again.is at c.in_ok-root.ensures) c.visit.ensures

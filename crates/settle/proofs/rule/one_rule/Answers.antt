@@ -6,10 +6,10 @@ use Rattle.settle.specs.Settled.{settles_unary}
 use Rattle.settle.specs.Visits.{one_runs}
 use Rattle.settle.proofs.rule.one_rule.Goals as goal
 
-pub settle-requires-clause-i_lt_count : goal.settle-requires-clause-i_lt_count
-settle-requires-clause-i_lt_count c =
+pub settle-requires-clause-a_lt_count : goal.settle-requires-clause-a_lt_count
+settle-requires-clause-a_lt_count c =
     let over = c.requires.over in
-    (c.requires.below, over.below, over.below, un_over_size over)
+    (over.below, over.below, un_over_size over)
 
 pub settle-requires-clause-settles : goal.settle-requires-clause-settles
 settle-requires-clause-settles c =
@@ -19,4 +19,4 @@ pub returns-in_err-root : goal.returns-in_err-root
 returns-in_err-root c =
     let p = err_from_is_err_and c.from_residual.result c.from_residual.ensures.1 in
     rw (p.1, p.2)
-    (one_runs c.requires c.un_act-act.result _ _ (rw (c.nodes.ensures.words, c.nodes.ensures.count) at c.un_act-act.ensures) refl c.in_err-root.ensures)
+    (one_runs c.requires c.un_act-act.result _ _ _ (rw (c.nodes.ensures.words, c.nodes.ensures.count) at c.un_act-act.ensures) refl c.then_some-kept.ensures c.in_err-root.ensures)

@@ -8,7 +8,7 @@ use Rattle.settle.proofs.writer.settle.Goals as goal
 pub returns-in_ok-right-in-Redo : goal.returns-in_ok-right-in-Redo
 returns-in_ok-right-in-Redo g c =
     let left : c.near-left.result ≡ near c.in-Redo.which (nodes_of c.args.arena.now.count c.args.arena.now.words.now) c.args.a c.args.b =
-        rw (c.nodes-in-Redo.ensures.words, c.nodes-in-Redo.ensures.count) at c.near-left.ensures.0 in
+    rw (c.nodes-in-Redo.ensures.words, c.nodes-in-Redo.ensures.count) at c.near-left.ensures.0 in
     record {
       same_reference = c.push-in-Redo.ensures.same_reference ∙ c.in_ok-right-in-Redo.ensures.same_reference;
       ended =
