@@ -3,6 +3,7 @@
 
 ghost use Rattle.std.specs.Prelude.{◌≡◌};
 ghost use Rattle.format.specs.Kinds.{un_number, bin_number};
+ghost use Rattle.format.specs.KindRules.{number_of};
 ghost use Rattle.format.specs.Nodes.{node_size, node_is_top, node_left_child};
 
 /// The operators of one child.
@@ -100,6 +101,22 @@ impl From<Bin> for u64 {
             Bin::IntCarry => 13,
             Bin::IntSCarry => 14,
             Bin::IntSBorrow => 15,
+        }
+    }
+}
+
+/// A kind's number.
+impl From<Shape> for u64 {
+    ghost from_gives = { λ shape n. n ≡ number_of shape };
+
+    fn from(shape: Shape) -> u64 {
+        match shape {
+            Shape::Top => 0,
+            Shape::Entry => 1,
+            Shape::Const => 2,
+            Shape::Bind => 3,
+            Shape::Unary(op) => op.into(),
+            Shape::Binary(op) => op.into(),
         }
     }
 }

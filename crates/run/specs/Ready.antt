@@ -2,8 +2,8 @@
 use Rattle.std.specs.Prelude.{Bool, true, false, ◌||◌, List, ◌≡◌, refl, ℕ, ◌<◌, None}
 use Rattle.std.proofs.Common.{ap, sym, ◌∙◌, arith}
 use Rattle.arena.specs.Ended.{Ended}
-use Rattle.arena.specs.Live.{Live, New, tree_of, node_is_leaf}
-use Rattle.arena.specs.LiveLaws.{live_ordered, in_arena, tree_of_node}
+use Rattle.arena.specs.Live.{Live, New, tree_of, node_is_top, node_is_leaf}
+use Rattle.arena.specs.LiveLaws.{live_ordered, in_arena, top_at, tree_of_node}
 use Rattle.arena.specs.Step.{Step}
 use Rattle.arena.specs.declared.Arena.{Arena}
 use Rattle.format.specs.Truth.{or_neither, not_both}
@@ -121,6 +121,11 @@ two_at {words} {count} {i} {op} {s} {j} {k} {a} {b} r e f = record {
   left_normal = r.left_normal;
   right_normal = r.right_normal;
 }
+
+-- what the test of a node that was read tells of its tree
+pub top_read : {words : List ℕ} {count : ℕ} → Live words count → (a : ℕ) → a < count → (node : Node) (test answer : Bool) → node ≡ node_at words a → test ≡ node_is_top node →
+    test ≡ answer → is_top (tree_of count words a) ≡ answer
+top_read live a h node test answer p q r = top_at live a h ∙ ap node_is_top (sym p) ∙ sym q ∙ r
 
 -- THE CHILDREN ARE REDUCED TREES
 

@@ -190,3 +190,7 @@ two_runs {old} {new} {node} {a} {b} at act again kept root p q r h =
     let same = eqb a node.left && eqb b node.right in
     let stays = kept_same same node.index (Node.Binary node.op node.size a b) (nodes_of old.count old.words.now) in
     record { same_reference = h.same_reference; ran = two_ran old.live at new.words.now new.count act again same root p q refl (rw (r, stays) at h.ended) }
+
+-- without room it makes no difference whether a rule simplifies again
+pub no_room_either : (again : Bool) (none : NoRoom) → outcome_as again (Err none) ≡ Err none
+no_room_either again none = refl

@@ -37,12 +37,12 @@ pub fn header_of(node: Node) -> u64
 {
     match node {
         Node::Top => 0,
-        Node::Entry(size, space, _) => fields::pack(1, size, 0, 0, space),
-        Node::Const(size, _) => fields::pack(2, size, 0, 0, 0),
-        Node::Bind(size, _) => fields::pack(3, size, 0, 0, 0),
-        Node::Unary(op, size, left) => fields::pack(u64::from(op), size, left as u64, 0, 0),
+        Node::Entry(size, space, _) => fields::pack(Shape::Entry.into(), size, 0, 0, space),
+        Node::Const(size, _) => fields::pack(Shape::Const.into(), size, 0, 0, 0),
+        Node::Bind(size, _) => fields::pack(Shape::Bind.into(), size, 0, 0, 0),
+        Node::Unary(op, size, left) => fields::pack(op.into(), size, left as u64, 0, 0),
         Node::Binary(op, size, left, right) => {
-            fields::pack(u64::from(op), size, left as u64, right as u64, 0)
+            fields::pack(op.into(), size, left as u64, right as u64, 0)
         }
     }
 }
