@@ -43,6 +43,6 @@ fn value_in(row: &[u64], word: u64, payload: u64) -> Option<u64>
 pub fn find(rows: &[u64], word: u64, payload: u64) -> Option<u64>
     ensures { result ≡ found rows.now word payload }
 {
-    rows.chunks(ROW_WORDS)
+    rows.chunks_exact(ROW_WORDS)
         .find_map(|row| value_in(row, word, payload))
 }
