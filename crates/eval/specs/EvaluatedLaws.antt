@@ -2,7 +2,7 @@
 use Rattle.std.specs.Prelude.{false, List, ◌≡◌, ℕ, Err, None, Ok, Option, Result, Some}
 use Rattle.std.specs.Result.{MatchResult, IsErrAnd}
 use Rattle.std.proofs.Math.Path.{refl}
-use Rattle.std.proofs.Common.{ap, ◌∙◌}
+use Rattle.std.proofs.Common.{ap}
 use Rattle.arena.specs.Live.{tree_of}
 use Rattle.eval.specs.Answers.{answered, answer_at, evaluated_live}
 use Rattle.tree.specs.Arena.{nodes_of}

@@ -2,16 +2,15 @@
 ghost use Rattle.std.specs.Prelude.{None, false, ◌≡◌, ◌<◌};
 ghost use Rattle.std.specs.Option.{ok_or};
 ghost use Rattle.arena.specs.Live.{tree_of};
-ghost use Rattle.eval.specs.Answers.{answer_at};
-ghost use Rattle.format.specs.Limits.{header_at, payload_at};
-ghost use Rattle.tree.specs.Rows.{bad_row, found};
+ghost use Rattle.eval.specs.Answers.{input_value, answer_at};
+ghost use Rattle.tree.specs.Rows.{bad_row};
 ghost use Rattle.tree.specs.Tree.{has_top};
 
 use crate::rows;
 use arena::Nodes;
 use format::Node;
 
-// Whether a Top is reached from node i.
+/// Whether a Top is reached from node i.
 pub fn has_top(nodes: &Nodes<'_>, i: usize) -> bool
     requires { i < nodes.now.count }
     ensures { result ≡ has_top (tree_of nodes.now.count nodes.now.words.now i) }
@@ -24,7 +23,7 @@ pub fn has_top(nodes: &Nodes<'_>, i: usize) -> bool
     }
 }
 
-// Nodes, and rows of values for their inputs, none of them bad.
+/// Nodes, and rows of values for their inputs, none of them bad.
 #[derive(Clone, Copy)]
 pub struct Evaluation<'a> {
     pub nodes: Nodes<'a>,
@@ -36,7 +35,7 @@ impl Evaluation<'_> {
     // An input's value is looked up by its two words.
     fn input_at(&self, i: usize) -> Result<u64, usize>
         requires { i < self.now.nodes.count }
-        ensures { let words = self.now.nodes.words.now in result ≡ ok_or (found self.now.rows.now (header_at words i) (payload_at words i)) i }
+        ensures { result ≡ ok_or (input_value self.now.nodes.words.now self.now.rows.now i) i }
     {
         rows::find(self.rows, self.nodes.header(i), self.nodes.payload(i)).ok_or(i)
     }

@@ -28,8 +28,8 @@ fn left_over(nodes: &Nodes<'_>, i: usize, budget: u64, most: u64) -> u64
     }
 }
 
-// Both limits in one walk. Where it has nothing left, a second one tells which limit it was: the nodes come first. A path is
-// no longer than its tree, so that walk ends early only where there are too many nodes.
+/// Both limits in one walk. Where it has nothing left, a second one tells which limit it was: the nodes come first. A path is
+/// no longer than its tree, so that walk ends early only where there are too many nodes.
 pub fn limited(nodes: &Nodes<'_>, root: usize) -> Result<(), Refusal>
     requires { root < nodes.now.count }
     ensures { result ≡ limited (tree_of nodes.now.count nodes.now.words.now root) }

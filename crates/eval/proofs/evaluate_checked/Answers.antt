@@ -5,5 +5,5 @@ use Rattle.eval.proofs.evaluate_checked.Goals as goal
 
 pub returns : goal.returns
 returns c =
-    evaluated_told _ (λ i error h. search rules) _ _ _ c.args.rows.now (sym c.in_default.ensures) (sym c.if-has_top.ensures) c.map_err.result
-    (rw c.value_at.ensures at c.map_err.ensures.cases)
+    evaluated_told _ (λ i error h. search rules) _ _ _ c.args.rows.now (sym c.in_default.ensures) (sym c.if-has_top.ensures)
+    c.map_err.result (rw c.value_at.ensures at c.map_err.ensures.cases)

@@ -16,7 +16,8 @@ returns-then-has_top t c =
 
 pub returns-else-has_top : goal.returns-else-has_top
 returns-else-has_top t c =
-    rw (tree_of_node c.args.nodes.now.live c.args.i c.requires _ (sym c.in-Binary.ensures), ← c.if-has_top.ensures) c.has_top-else-has_top.ensures
+    rw (tree_of_node c.args.nodes.now.live c.args.i c.requires _ (sym c.in-Binary.ensures), ← c.if-has_top.ensures)
+    c.has_top-else-has_top.ensures
 
 pub returns-in_default : goal.returns-in_default
 returns-in_default t c =

@@ -16,7 +16,8 @@ returns-in-Unary t c =
 pub returns-in-Binary : goal.returns-in-Binary
 returns-in-Binary t c =
     c.left_over-in-Binary.ensures
-    ∙ over_two c.args.nodes.now.live c.requires c.args.budget _ c.if-most-eq0.false _ _ _ _ (sym c.in-Binary.ensures) _ c.left_over-rest.ensures
+    ∙ over_two c.args.nodes.now.live c.requires c.args.budget _ c.if-most-eq0.false _ _ _ _ (sym c.in-Binary.ensures) _
+    c.left_over-rest.ensures
 
 pub returns-in_default : goal.returns-in_default
 returns-in_default t c =

@@ -5,7 +5,9 @@ use Rattle.eval.proofs.walk.Evaluation.+value_at.Goals as goal
 
 pub value_at-requires : goal.value_at-requires
 value_at-requires t c =
-    let child = only_child c.args.self.now.nodes.live c.requires.i_lt_count c.args.self.now.rows.now c.args.self.now.good c.requires.topless _ _ _ (sym c.in-Unary.ensures) in
+    let child =
+    only_child c.args.self.now.nodes.live c.requires.i_lt_count c.args.self.now.rows.now c.args.self.now.good c.requires.topless _ _ _
+    (sym c.in-Unary.ensures) in
     (omega (arith, child.0), child.1)
 
 pub returns-in_err-x-in-Unary : goal.returns-in_err-x-in-Unary
@@ -18,8 +20,8 @@ returns-in_err-x-in-Unary t c =
 pub un_value-requires : goal.un_value-requires
 un_value-requires t c =
     rw (c.size.ensures, c.node-in-Unary.ensures)
-    (operand_fits c.args.self.now.nodes.live c.requires.i_lt_count c.args.self.now.rows.now c.args.self.now.good c.requires.topless _ _ _ (sym c.in-Unary.ensures) _
-    c.in_ok-x-in-Unary.ensures)
+    (operand_fits c.args.self.now.nodes.live c.requires.i_lt_count c.args.self.now.rows.now c.args.self.now.good c.requires.topless _ _ _
+    (sym c.in-Unary.ensures) _ c.in_ok-x-in-Unary.ensures)
 
 pub returns-in_ok-x-in-Unary : goal.returns-in_ok-x-in-Unary
 returns-in_ok-x-in-Unary t c =
@@ -33,7 +35,9 @@ returns-in_ok-x-in-Unary t c =
 
 pub value_at-requires-in-Binary : goal.value_at-requires-in-Binary
 value_at-requires-in-Binary t c =
-    let child = left_child c.args.self.now.nodes.live c.requires.i_lt_count c.args.self.now.rows.now c.args.self.now.good c.requires.topless _ _ _ _ (sym c.in-Binary.ensures) in
+    let child =
+    left_child c.args.self.now.nodes.live c.requires.i_lt_count c.args.self.now.rows.now c.args.self.now.good c.requires.topless _ _ _ _
+    (sym c.in-Binary.ensures) in
     (omega (arith, child.0), child.1)
 
 pub returns-in_err-first-in-Binary : goal.returns-in_err-first-in-Binary
@@ -45,7 +49,9 @@ returns-in_err-first-in-Binary t c =
 
 pub value_at-requires-in-Binary-2 : goal.value_at-requires-in-Binary-2
 value_at-requires-in-Binary-2 t c =
-    let child = right_child c.args.self.now.nodes.live c.requires.i_lt_count c.args.self.now.rows.now c.args.self.now.good c.requires.topless _ _ _ _ (sym c.in-Binary.ensures) in
+    let child =
+    right_child c.args.self.now.nodes.live c.requires.i_lt_count c.args.self.now.rows.now c.args.self.now.good c.requires.topless _ _ _ _
+    (sym c.in-Binary.ensures) in
     (omega (arith, child.0), child.1)
 
 pub returns-in_err-second-in-Binary : goal.returns-in_err-second-in-Binary
@@ -58,8 +64,8 @@ returns-in_err-second-in-Binary t c =
 pub bin_value-requires : goal.bin_value-requires
 bin_value-requires t c =
     rw (c.size-in-Binary.ensures, c.node-in-Binary.ensures)
-    (operands_fit c.args.self.now.nodes.live c.requires.i_lt_count c.args.self.now.rows.now c.args.self.now.good c.requires.topless _ _ _ _ (sym c.in-Binary.ensures) _ _
-    c.in_ok-first-in-Binary.ensures c.in_ok-second-in-Binary.ensures)
+    (operands_fit c.args.self.now.nodes.live c.requires.i_lt_count c.args.self.now.rows.now c.args.self.now.good c.requires.topless _ _ _ _
+    (sym c.in-Binary.ensures) _ _ c.in_ok-first-in-Binary.ensures c.in_ok-second-in-Binary.ensures)
 
 pub returns-in_ok-second-in-Binary : goal.returns-in_ok-second-in-Binary
 returns-in_ok-second-in-Binary t c =
@@ -84,4 +90,5 @@ returns-in-Entry t c =
     ]
 
 pub returns-in-Const : goal.returns-in-Const
-returns-in-Const t c = sym (answer_of_node c.args.self.now.nodes.live c.requires.i_lt_count c.args.self.now.rows.now _ (sym c.in-Const.ensures))
+returns-in-Const t c =
+    sym (answer_of_node c.args.self.now.nodes.live c.requires.i_lt_count c.args.self.now.rows.now _ (sym c.in-Const.ensures))
