@@ -4,7 +4,7 @@ use Rattle.std.specs.Bool.{IsTrue}
 use Rattle.std.specs.Option.{IsSomeAnd}
 use Rattle.std.specs.Fn.{Called}
 use Rattle.std.specs.List.{IsSubsliceAt}
-use Rattle.std.specs.Iterator.Runs.{Run, IsChunksRun, AllItems, AllItemsGive, IsFirstToGive, CallKeepsClosure}
+use Rattle.std.specs.Iterator.Runs.{Run, IsChunksRun, IsChunksExactRun, AllItems, AllItemsGive, IsFirstToGive, CallKeepsClosure}
 use Rattle.std.proofs.Common.{ap, sym, ◌∙◌, arith, subst, ⊎_elim, eq-or-lt_of_le, eq-eqb, ne_eqb}
 use Rattle.std.proofs.Math.Decide.{dec_lt}
 use denote.Param.Members.{Mut}
@@ -82,34 +82,40 @@ module _ {rows : List ℕ} {k : ℕ} {row : List ℕ} (c : Chunk rows k row) whe
     good_past : good_chunk row ≡ false
     good_past = rw (ne_eqb (length row) row_words short)
 
-    value_past : (word payload : ℕ) → value_in row word payload ≡ None
-    value_past word payload = rw (ne_eqb (length row) row_words short)
+-- what the run of `chunks` says of its item at place k, and the run of `chunks_exact`
+part_of_chunks : (rows : List ℕ) (k : ℕ) (o : Option (Bor (List ℕ))) →
+    IfSome o (λ x. (0 < length x.now) × (k * row_words < length rows) × IsSubsliceAt row_words rows (k * row_words) x.now) →
+    IfSome o (λ x. Chunk rows k x.now)
+part_of_chunks rows k None c = c
+part_of_chunks rows k (Some x) c = record { inside = c.1; part = c.2 }
 
--- the chunks that a closure was called at, by what it answered
-module _ {S F R : Type 0} {steps : S → Option (Bor (List ℕ)) → S → Type 0} (rows : Bor (List ℕ)) (p : Run steps)
-    (chunks : IsChunksRun p row_words rows.now) (g : Mut F (Bor (List ℕ) × Unit {0}) R) (f : F) (test : List ℕ → R)
-    (tests : (x : Bor (List ℕ)) (r : R) → Called g f (x, tt) r f → r ≡ test x.now) where
-  -- place k has a chunk, and the answer there was r
+part_of_exact : (rows : List ℕ) (k : ℕ) (o : Option (Bor (List ℕ))) →
+    IfSome o (λ x. (length x.now ≡ row_words) × (k * row_words + row_words ≤ length rows) × IsSubsliceAt row_words rows (k * row_words) x.now) →
+    IfSome o (λ x. (k < count rows) × Chunk rows k x.now)
+part_of_exact rows k None c = c
+part_of_exact rows k (Some x) c = (omega (arith, c.1), record { inside = omega (arith, c.1); part = c.2 })
+
+-- the items that a closure was called at, by what it answered
+module _ {S F R X : Type 0} {steps : S → Option X → S → Type 0} (p : Run steps) (default : X) (Part : ℕ → X → Type 0)
+    (parts : (k : ℕ) → IfSome (p.at k) (Part k)) (g : Mut F (X × Unit {0}) R) (f : F) where
+  -- place k has an item, and the answer there was r
   abbrev Answered : ℕ → R → Type 0
-  Answered k r = (row : List ℕ) × Chunk rows.now k row × (r ≡ test row)
+  Answered k r = (x : X) × Part k x × Called g f (x, tt) r f
 
-  at_place : (k : ℕ) (r : R) (o : Option (Bor (List ℕ))) →
-      IfSome o (λ x. (0 < length x.now) × (k * row_words < length rows.now) × IsSubsliceAt row_words rows.now (k * row_words) x.now) →
-      IsSomeAnd o (λ x. Called g f (x, tt) r f) → Answered k r
+  at_place : (k : ℕ) (r : R) (o : Option X) → IfSome o (Part k) → IsSomeAnd o (λ x. Called g f (x, tt) r f) → Answered k r
   at_place k r None c a = absurd a
-  at_place k r (Some x) c a = (x.now, record { inside = c.1; part = c.2 }, tests x r a)
+  at_place k r (Some x) c a = (x, c, a)
 
   answered : (k : ℕ) (r : R) → IsSomeAnd (p.at k) (λ x. Called g f (x, tt) r f) → Answered k r
-  answered k r a = at_place k r (p.at k) (chunks.2 k) a
+  answered k r a = at_place k r (p.at k) (parts k) a
 
-  -- an item that a closure answered r at, where it did so at each item
-  there : (k : ℕ) (r : R) → k < p.len → (o : Option (Bor (List ℕ))) → p.at k ≡ o → IfSome o (λ x. Called g f (x, tt) r f) →
-      IsSomeAnd o (λ x. Called g f (x, tt) r f)
-  there k r h None e a = let none = rw e at (p.reads k rows h) in let z : ◌≡◌ {A = ℕ} 0 1 = cc in absurd (omega arith)
+  there : (k : ℕ) (r : R) → k < p.len → (o : Option X) → p.at k ≡ o → IfSome o (λ x. Called g f (x, tt) r f) → IsSomeAnd o (λ x. Called g f (x, tt) r f)
+  there k r h None e a = let none = rw e at (p.reads k default h) in let z : ◌≡◌ {A = ℕ} 0 1 = cc in absurd (omega arith)
   there k r h (Some x) e a = a
 
-  each : (r : R) → IsTrue p.whole → AllItems p (λ x. Called g f (x, tt) r f) → (k : ℕ) → k * row_words < length rows.now → Answered k r
-  each r whole all k h = answered k r (there k r (omega (arith, chunks.1 whole)) (p.at k) refl (all k))
+  -- where it answered r at each item
+  each : (r : R) → AllItems p (λ x. Called g f (x, tt) r f) → (k : ℕ) → k < p.len → Answered k r
+  each r all k h = answered k r (there k r h (p.at k) refl (all k))
 
 -- the places that a search over the rows themselves stops at
 module _ (rows : List ℕ) where
@@ -147,21 +153,26 @@ module _ (rows : List ℕ) where
     unfolding found_from
     found_end j = refl
 
-module _ {S F : Type 0} {steps : S → Option (Bor (List ℕ)) → S → Type 0} (rows : Bor (List ℕ)) (p : Run steps)
-    (chunks : IsChunksRun p row_words rows.now) where
-  module _ (g : Mut F (Bor (List ℕ) × Unit {0}) Bool) (f : F) (keeps : CallKeepsClosure g f)
+module _ {S F : Type 0} {steps : S → Option (Bor (List ℕ)) → S → Type 0} (rows : Bor (List ℕ)) (p : Run steps) where
+  module _ (chunks : IsChunksRun p row_words rows.now) (g : Mut F (Bor (List ℕ) × Unit {0}) Bool) (f : F) (keeps : CallKeepsClosure g f)
       (tests : (x : Bor (List ℕ)) (r : Bool) → Called g f (x, tt) r f → r ≡ not (good_chunk x.now)) where
+    abbrev IsPart : ℕ → Bor (List ℕ) → Type 0
+    IsPart k x = Chunk rows.now k x.now
+
     abbrev Judged : ℕ → Bool → Type 0
-    Judged = Answered rows p chunks g f (λ row. not (good_chunk row)) tests
+    Judged k r = (x : Bor (List ℕ)) × IsPart k x × Called g f (x, tt) r f
+
+    part : (k : ℕ) → IfSome (p.at k) (IsPart k)
+    part k = part_of_chunks rows.now k (p.at k) (chunks.2 k)
 
     passed_at : (k : ℕ) → k < count rows.now → Judged k false → bad_at rows.now k ≡ None
-    passed_at k h (row, c, e) = rw (← good_here c h, not_false (good_chunk row) e)
+    passed_at k h (x, c, a) = rw (← good_here c h, not_false (good_chunk x.now) (tests x false a))
 
     failed_at : (k : ℕ) → k < count rows.now → Judged k true → bad_at rows.now k ≡ Some k
-    failed_at k h (row, c, e) = rw (← good_here c h, not_true (good_chunk row) e)
+    failed_at k h (x, c, a) = rw (← good_here c h, not_true (good_chunk x.now) (tests x true a))
 
     past_fails : (k : ℕ) → count rows.now ≤ k → Judged k false → ⊥
-    past_fails k h (row, c, e) = not_both (not_false (good_chunk row) e) (good_past c h)
+    past_fails k h (x, c, a) = not_both (not_false (good_chunk x.now) (tests x false a)) (good_past c h)
 
     none_fails : ((k : ℕ) → k * row_words < length rows.now → Judged k false) → None ≡ bad_row rows.now
     none_fails good =
@@ -175,12 +186,12 @@ module _ {S F : Type 0} {steps : S → Option (Bor (List ℕ)) → S → Type 0}
         no_part (no h) = omega arith
 
     one_fails : (i : ℕ) → Judged i true → ((k : ℕ) → k < i → Judged k false) → Some i ≡ bad_row rows.now
-    one_fails i (row, c, e) before = go (dec_lt i (count rows.now))
+    one_fails i (x, c, a) before = go (dec_lt i (count rows.now))
       where
         go : Dec (i < count rows.now) → Some i ≡ bad_row rows.now
         go (yes h) =
             sym (hits (bad_at rows.now) (bad_row_from rows.now) (bad_step rows.now) (count rows.now) 0 i i
-            (λ k h'. passed_at k (omega arith) (before k h')) (failed_at i h (row, c, e)) (omega arith) (omega arith))
+            (λ k h'. passed_at k (omega arith) (before k h')) (failed_at i h (x, c, a)) (omega arith) (omega arith))
         go (no h) =
             let last : i ≡ count rows.now = omega (arith, c.inside) in
             sym (misses (bad_at rows.now) (bad_row_from rows.now) (bad_step rows.now) (count rows.now) 0
@@ -191,36 +202,35 @@ module _ {S F : Type 0} {steps : S → Option (Bor (List ℕ)) → S → Type 0}
     pub bad_by : (result : Option ℕ) →
         MatchOption result (IsTrue p.whole × AllItemsGive p g f false) (λ i. (p.len ≡ i + 1) × IsFirstToGive p g f true false i) →
         result ≡ bad_row rows.now
-    bad_by None (ends, all) = none_fails (each rows p chunks g f (λ row. not (good_chunk row)) tests false ends (all keeps))
+    bad_by None (ends, all) = none_fails (λ k h. each p rows IsPart part g f false (all keeps) k (omega (arith, chunks.1 ends)))
     bad_by (Some i) (len, first) =
-        let told = answered rows p chunks g f (λ row. not (good_chunk row)) tests in
+        let told = answered p rows IsPart part g f in
         one_fails i (told i true (first keeps).0) (λ k h. told k false ((first keeps).1 k h))
 
-  module _ (g : Mut F (Bor (List ℕ) × Unit {0}) (Option ℕ)) (f : F) (keeps : CallKeepsClosure g f) (word payload : ℕ)
-      (tests : (x : Bor (List ℕ)) (r : Option ℕ) → Called g f (x, tt) r f → r ≡ value_in x.now word payload) where
+  module _ (chunks : IsChunksExactRun p row_words rows.now) (g : Mut F (Bor (List ℕ) × Unit {0}) (Option ℕ)) (f : F) (keeps : CallKeepsClosure g f)
+      (word payload : ℕ) (tests : (x : Bor (List ℕ)) (r : Option ℕ) → Called g f (x, tt) r f → r ≡ value_in x.now word payload) where
+    abbrev IsRow : ℕ → Bor (List ℕ) → Type 0
+    IsRow k x = (k < count rows.now) × Chunk rows.now k x.now
+
     abbrev Told : ℕ → Option ℕ → Type 0
-    Told = Answered rows p chunks g f (λ row. value_in row word payload) tests
+    Told k r = (x : Bor (List ℕ)) × IsRow k x × Called g f (x, tt) r f
 
-    told_at : (k : ℕ) (r : Option ℕ) → k < count rows.now → Told k r → value_at rows.now word payload k ≡ r
-    told_at k r h (row, c, e) = sym (e ∙ value_here c h word payload)
+    row : (k : ℕ) → IfSome (p.at k) (IsRow k)
+    row k = part_of_exact rows.now k (p.at k) (chunks.2 k)
 
-    inside : (i y : ℕ) → Told i (Some y) → Dec (i < count rows.now) → i < count rows.now
-    inside i y told (yes h) = h
-    inside i y (row, c, e) (no h) =
-        let none : Some y ≡ None = e ∙ value_past c (omega arith) word payload in
-        let z : ◌≡◌ {A = ℕ} 0 1 = cc in absurd (omega arith)
+    told_at : (k : ℕ) (r : Option ℕ) → Told k r → value_at rows.now word payload k ≡ r
+    told_at k r (x, c, a) = sym (tests x r a ∙ value_here c.1 c.0 word payload)
 
     pub found_by : (result : Option ℕ) →
         MatchOption result (IsTrue p.whole × AllItemsGive p g f None)
         (λ y. (i : ℕ) × (i < p.len) × (p.len ≡ i + 1) × IsFirstToGive p g f (Some y) None i) → result ≡ found rows.now word payload
     found_by None (ends, all) =
         sym (misses (value_at rows.now word payload) (found_in rows.now word payload) (found_step rows.now word payload) (count rows.now) 0
-        (λ k h. told_at k None (omega arith) (each rows p chunks g f (λ row. value_in row word payload) tests None ends (all keeps) k (omega arith)))
+        (λ k h. told_at k None (each p rows IsRow row g f None (all keeps) k (omega (arith, chunks.1 ends))))
         ∙ found_end rows.now word payload _)
     found_by (Some y) (i, within, len, first) =
-        let told = answered rows p chunks g f (λ row. value_in row word payload) tests in
+        let told = answered p rows IsRow row g f in
         let here = told i (Some y) (first keeps).0 in
-        let h = inside i y here (dec_lt i (count rows.now)) in
         sym (hits (value_at rows.now word payload) (found_in rows.now word payload) (found_step rows.now word payload) (count rows.now) 0 i y
-        (λ k h'. told_at k None (omega arith) (told k None ((first keeps).1 k h')))
-        (told_at i (Some y) h here) (omega arith) (omega arith))
+        (λ k h. told_at k None (told k None ((first keeps).1 k h)))
+        (told_at i (Some y) here) (omega arith) (omega (arith, here.1.0)))

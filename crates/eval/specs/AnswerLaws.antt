@@ -1,12 +1,12 @@
 -- A node's answer from its children's, and what their values are fit for. Assumes nothing.
-use Rattle.std.specs.Prelude.{false, List, ◌≡◌, refl, ℕ, ◌<◌, Err, None, Ok, Option, Some}
+use Rattle.std.specs.Prelude.{false, List, ◌≡◌, refl, ℕ, ◌<◌, Err, None, Ok, Option, Some, Result}
 use Rattle.std.specs.Option.{ok_or}
 use Rattle.std.proofs.Math.Path.{ap, ap₂}
 use Rattle.std.proofs.Common.{sym, ◌∙◌, arith}
 use Rattle.arena.specs.Live.{Live, tree_of, node_size}
 use Rattle.arena.specs.LiveLaws.{live_ordered, in_arena, tree_of_node, below_at, size_at}
 use Rattle.arith.specs.Operands.{Extension}
-use Rattle.eval.specs.Answers.{answer_at}
+use Rattle.eval.specs.Answers.{answered, answer_at}
 use Rattle.theory.specs.MissingLaws.{missing_eq}
 use Rattle.theory.specs.RowLaws.{assigned_fitting}
 use Rattle.values.specs.SizedOperands.{unary_operand, binary_operands}
@@ -20,64 +20,63 @@ use Rattle.tree.specs.Arena.{node_at, nodes_of, build}
 use Rattle.tree.specs.ArenaLaws.{at-nodes_of}
 use Rattle.tree.specs.Form.{bin_sizing, Sized}
 use Rattle.tree.specs.Meaning.{un_value, bin_value, value}
-use Rattle.tree.specs.Rows.{bad_row, found, or_zero, assigned, first_of, unless_found, missing_step, missing, valued, Evaluated}
+use Rattle.tree.specs.Rows.{bad_row, found, or_zero, assigned, first_of, unless_found, missing_step, missing}
 use Rattle.tree.specs.Tree.{Tree, size, has_top}
-use Rattle.tree.specs.declared.EvaluateError.{EvaluateError}
 use Rattle.values.specs.Operands.{Fitting}
 
 -- ANSWERS
 
 -- an operator of a node of s bytes over its operand's answer, the left child having c bytes
-abbrev pub over_one : Un → (s c : ℕ) → Evaluated → Evaluated
+abbrev pub over_one : Un → (s c : ℕ) → Result ℕ ℕ → Result ℕ ℕ
 over_one op s c (Ok x) = Ok (un_value op s c x)
-over_one op s c (Err error) = Err error
+over_one op s c (Err j) = Err j
 
 -- left before right
-abbrev pub over_two : Bin → (s c : ℕ) → (left right : Evaluated) → Evaluated
+abbrev pub over_two : Bin → (s c : ℕ) → (left right : Result ℕ ℕ) → Result ℕ ℕ
 over_two op s c (Ok x) (Ok y) = Ok (bin_value op s c x y)
-over_two op s c (Ok x) (Err error) = Err error
-over_two op s c (Err error) right = Err error
+over_two op s c (Ok x) (Err j) = Err j
+over_two op s c (Err j) right = Err j
 
 -- node i's, given its two words and its children's sizes and answers
-abbrev pub answer_step : (rows : List ℕ) (word payload : ℕ) → (child_size : ℕ → ℕ) (answer : ℕ → Evaluated) → ℕ → Node → Evaluated
+abbrev pub answer_step : (rows : List ℕ) (word payload : ℕ) → (child_size : ℕ → ℕ) (answer : ℕ → Result ℕ ℕ) → ℕ → Node → Result ℕ ℕ
 answer_step rows word payload child_size answer i Node.Top = Ok 0
-answer_step rows word payload child_size answer i (Node.Entry s space offset) = ok_or (found rows word payload) (EvaluateError.InputMissing i)
+answer_step rows word payload child_size answer i (Node.Entry s space offset) = ok_or (found rows word payload) i
 answer_step rows word payload child_size answer i (Node.Const s v) = Ok v
-answer_step rows word payload child_size answer i (Node.Bind s id) = ok_or (found rows word payload) (EvaluateError.InputMissing i)
+answer_step rows word payload child_size answer i (Node.Bind s id) = ok_or (found rows word payload) i
 answer_step rows word payload child_size answer i (Node.Unary op s left) = over_one op s (child_size left) (answer left)
 answer_step rows word payload child_size answer i (Node.Binary op s left right) = over_two op s (child_size left) (answer left) (answer right)
 
-valued_input : (i : ℕ) (row : Option ℕ) → valued (unless_found row i) (or_zero row) ≡ ok_or row (EvaluateError.InputMissing i)
-valued_input i None = refl
-valued_input i (Some v) = refl
+answered_input : (i : ℕ) (row : Option ℕ) → answered (unless_found row i) (or_zero row) ≡ ok_or row i
+answered_input i None = refl
+answered_input i (Some v) = refl
 
-valued_one : (op : Un) (s c : ℕ) (m : Option ℕ) (x : ℕ) → valued m (un_value op s c x) ≡ over_one op s c (valued m x)
-valued_one op s c None x = refl
-valued_one op s c (Some j) x = refl
+answered_one : (op : Un) (s c : ℕ) (m : Option ℕ) (x : ℕ) → answered m (un_value op s c x) ≡ over_one op s c (answered m x)
+answered_one op s c None x = refl
+answered_one op s c (Some j) x = refl
 
-valued_two : (op : Bin) (s c : ℕ) (m n : Option ℕ) (x y : ℕ) → valued (first_of m n) (bin_value op s c x y) ≡ over_two op s c (valued m x) (valued n y)
-valued_two op s c None None x y = refl
-valued_two op s c None (Some j) x y = refl
-valued_two op s c (Some j) n x y = refl
+answered_two : (op : Bin) (s c : ℕ) (m n : Option ℕ) (x y : ℕ) → answered (first_of m n) (bin_value op s c x y) ≡ over_two op s c (answered m x) (answered n y)
+answered_two op s c None None x y = refl
+answered_two op s c None (Some j) x y = refl
+answered_two op s c (Some j) n x y = refl
 
 module _ (rows : List ℕ) (tree : ℕ → Tree) (miss : ℕ → Option ℕ) where
-  abbrev answer : ℕ → Evaluated
-  answer j = valued (miss j) (value (assigned rows) (tree j))
+  abbrev answer : ℕ → Result ℕ ℕ
+  answer j = answered (miss j) (value (assigned rows) (tree j))
 
-  valued_node : (i : ℕ) (node : Node) (word payload : ℕ) → header_of node ≡ word → payload_of node ≡ payload →
-      valued (missing_step rows miss i node) (value (assigned rows) (build tree node)) ≡ answer_step rows word payload (λ j. size (tree j)) answer i node
-  valued_node i Node.Top word payload h p = refl
-  valued_node i (Node.Entry s space offset) word payload h p = rw (← h, ← p) (valued_input i (found rows (header_of (Node.Entry s space offset)) offset))
-  valued_node i (Node.Const s v) word payload h p = refl
-  valued_node i (Node.Bind s id) word payload h p = rw (← h, ← p) (valued_input i (found rows (header_of (Node.Bind s id)) id))
-  valued_node i (Node.Unary op s left) word payload h p = valued_one op s (size (tree left)) (miss left) (value (assigned rows) (tree left))
-  valued_node i (Node.Binary op s left right) word payload h p =
-      valued_two op s (size (tree left)) (miss left) (miss right) (value (assigned rows) (tree left)) (value (assigned rows) (tree right))
+  answered_node : (i : ℕ) (node : Node) (word payload : ℕ) → header_of node ≡ word → payload_of node ≡ payload →
+      answered (missing_step rows miss i node) (value (assigned rows) (build tree node)) ≡ answer_step rows word payload (λ j. size (tree j)) answer i node
+  answered_node i Node.Top word payload h p = refl
+  answered_node i (Node.Entry s space offset) word payload h p = rw (← h, ← p) (answered_input i (found rows (header_of (Node.Entry s space offset)) offset))
+  answered_node i (Node.Const s v) word payload h p = refl
+  answered_node i (Node.Bind s id) word payload h p = rw (← h, ← p) (answered_input i (found rows (header_of (Node.Bind s id)) id))
+  answered_node i (Node.Unary op s left) word payload h p = answered_one op s (size (tree left)) (miss left) (value (assigned rows) (tree left))
+  answered_node i (Node.Binary op s left right) word payload h p =
+      answered_two op s (size (tree left)) (miss left) (miss right) (value (assigned rows) (tree left)) (value (assigned rows) (tree right))
 
 -- an answer that is a value is the tree's
-valued_ok : (m : Option ℕ) (v x : ℕ) → Ok x ≡ valued m v → v ≡ x
-valued_ok None v x e = cc
-valued_ok (Some i) v x e = let z : ◌≡◌ {A = ℕ} 0 1 = cc in absurd (omega arith)
+answered_ok : (m : Option ℕ) (v x : ℕ) → Ok x ≡ answered m v → v ≡ x
+answered_ok None v x e = cc
+answered_ok (Some i) v x e = let z : ◌≡◌ {A = ℕ} 0 1 = cc in absurd (omega arith)
 
 -- only a Top, or a node with children, reaches one
 pub leaf_topless : (tree : ℕ → Tree) (node : Node) → (node ≡ Node.Top → ⊥) → ((op : Un) (s left : ℕ) → node ≡ Node.Unary op s left → ⊥) →
@@ -101,11 +100,11 @@ module _ {words : List ℕ} {count i : ℕ} (live : Live words count) (below : i
   answer_of_node node e =
       let arena = nodes_of count words in
       let good = live.good i below in
-      ap₂ valued
+      ap₂ answered
       (missing_eq rows arena (live_ordered live) i (in_arena live i below)
       ∙ ap (missing_step rows (missing rows arena) i) (at-nodes_of count words i below ∙ e))
       (ap (value (assigned rows)) (tree_of_node live i below node e))
-      ∙ valued_node rows tree (missing rows arena) i node (header_at words i) (payload_at words i)
+      ∙ answered_node rows tree (missing rows arena) i node (header_at words i) (payload_at words i)
       (ap header_of (sym e) ∙ good.header_is) (ap payload_of (sym e) ∙ good.payload_is)
 
   pub answer_one : (op : Un) (s left : ℕ) → node_at words i ≡ Node.Unary op s left →
@@ -136,7 +135,7 @@ module _ {words : List ℕ} {count i : ℕ} (live : Live words count) (below : i
       pub operand_fits : (x : ℕ) → Ok x ≡ answer_at words count rows left → Extension (node_size (node_at words left)) s x
       unfolding answer_at
       operand_fits x is =
-          rw (size_at live left only_child.1.0, valued_ok (missing rows (nodes_of count words) left) _ x is) at
+          rw (size_at live left only_child.1.0, answered_ok (missing rows (nodes_of count words) left) _ x is) at
           (unary_operand (assigned rows) (assigned_fitting rows good) op s (tree left) (sized_node _ e) (topless_node _ e))
 
     module _ (op : Bin) (s left right : ℕ) (e : node_at words i ≡ Node.Binary op s left right) where
@@ -152,7 +151,7 @@ module _ {words : List ℕ} {count i : ℕ} (live : Live words count) (below : i
       operands_fit x y is is' =
           rw (
             size_at live left left_child.1.0,
-            valued_ok (missing rows (nodes_of count words) left) _ x is,
-            valued_ok (missing rows (nodes_of count words) right) _ y is',
+            answered_ok (missing rows (nodes_of count words) left) _ x is,
+            answered_ok (missing rows (nodes_of count words) right) _ y is',
           ) at
           (binary_operands (assigned rows) (assigned_fitting rows good) op s (tree left) (tree right) (sized_node _ e) (topless_node _ e))

@@ -20,8 +20,10 @@ pub fn evaluate_checked(nodes: Nodes<'_>, root: usize, rows: &[u64]) -> Result<u
     if let Some(j) = rows::bad_row(rows) {
         return Err(EvaluateError::BadRow(j));
     }
-    if walk::has_top(nodes, root) {
+    if walk::has_top(&nodes, root) {
         return Err(EvaluateError::TopReachable);
     }
-    Evaluation { nodes, rows }.value_at(root)
+    Evaluation { nodes, rows }
+        .value_at(root)
+        .map_err(EvaluateError::InputMissing)
 }

@@ -22,7 +22,7 @@ fn good_row(row: &[u64]) -> bool
     }
 }
 
-// The first bad row. After the whole rows, one that the slice ends inside is bad too.
+/// The first bad row. After the whole rows, one that the slice ends inside is bad too.
 pub fn bad_row(rows: &[u64]) -> Option<usize>
     ensures { result ≡ bad_row rows.now }
 {
@@ -39,10 +39,10 @@ fn value_in(row: &[u64], word: u64, payload: u64) -> Option<u64>
     }
 }
 
-// The value of the first row that has these two words.
+/// The value of the first row that has these two words.
 pub fn find(rows: &[u64], word: u64, payload: u64) -> Option<u64>
     ensures { result ≡ found rows.now word payload }
 {
-    rows.chunks(ROW_WORDS)
+    rows.chunks_exact(ROW_WORDS)
         .find_map(|row| value_in(row, word, payload))
 }

@@ -2,20 +2,18 @@
 ghost use Rattle.std.specs.Prelude.{None, false, ◌≡◌, ◌<◌};
 ghost use Rattle.std.specs.Option.{ok_or};
 ghost use Rattle.arena.specs.Live.{tree_of};
-ghost use Rattle.eval.specs.Answers.{answer_at};
-ghost use Rattle.format.specs.Limits.{header_at, payload_at};
-ghost use Rattle.tree.specs.Rows.{bad_row, found};
+ghost use Rattle.eval.specs.Answers.{input_value, answer_at};
+ghost use Rattle.tree.specs.Rows.{bad_row};
 ghost use Rattle.tree.specs.Tree.{has_top};
 
 use crate::rows;
 use arena::Nodes;
 use format::Node;
-use tree::EvaluateError;
 
-// Whether a Top is reached from node i.
-pub fn has_top(nodes: Nodes<'_>, i: usize) -> bool
-    requires { i < nodes.count }
-    ensures { result ≡ has_top (tree_of nodes.entry.count nodes.entry.words.now i) }
+/// Whether a Top is reached from node i.
+pub fn has_top(nodes: &Nodes<'_>, i: usize) -> bool
+    requires { i < nodes.now.count }
+    ensures { result ≡ has_top (tree_of nodes.now.count nodes.now.words.now i) }
 {
     match nodes.node(i) {
         Node::Top => true,
@@ -25,7 +23,7 @@ pub fn has_top(nodes: Nodes<'_>, i: usize) -> bool
     }
 }
 
-// Nodes, and rows of values for their inputs, none of them bad.
+/// Nodes, and rows of values for their inputs, none of them bad.
 #[derive(Clone, Copy)]
 pub struct Evaluation<'a> {
     pub nodes: Nodes<'a>,
@@ -35,20 +33,18 @@ pub struct Evaluation<'a> {
 
 impl Evaluation<'_> {
     // An input's value is looked up by its two words.
-    fn input_at(self, i: usize) -> Result<u64, EvaluateError>
-        requires { i < self.nodes.count }
-        ensures { result ≡ ok_or (found self.entry.rows.now (header_at self.entry.nodes.words.now i) (payload_at self.entry.nodes.words.now i)) (EvaluateError.InputMissing i) }
+    fn input_at(&self, i: usize) -> Result<u64, usize>
+        requires { i < self.now.nodes.count }
+        ensures { result ≡ ok_or (input_value self.now.nodes.words.now self.now.rows.now i) i }
     {
-        rows::find(self.rows, self.nodes.header(i), self.nodes.payload(i)).ok_or(
-            EvaluateError::InputMissing(i),
-        )
+        rows::find(self.rows, self.nodes.header(i), self.nodes.payload(i)).ok_or(i)
     }
 
-    // The value of the tree under node i, from which no Top is reached.
-    pub fn value_at(self, i: usize) -> Result<u64, EvaluateError>
-        requires i_lt_count { i < self.nodes.count }
-        requires topless { has_top (tree_of self.nodes.count self.nodes.words.now i) ≡ false }
-        ensures { result ≡ answer_at self.entry.nodes.words.now self.entry.nodes.count self.entry.rows.now i }
+    /// The value of the tree under node i, from which no Top is reached, or the index of the first input without a row.
+    pub fn value_at(&self, i: usize) -> Result<u64, usize>
+        requires i_lt_count { i < self.now.nodes.count }
+        requires topless { has_top (tree_of self.now.nodes.count self.now.nodes.words.now i) ≡ false }
+        ensures { result ≡ answer_at self.now.nodes.words.now self.now.nodes.count self.now.rows.now i }
     {
         match self.nodes.node(i) {
             Node::Top => Ok(0),

@@ -68,7 +68,8 @@ module _ {words : List ℕ} {count i : ℕ} (live : Live words count) (below : i
       (λ h. sym (long t budget most (omega arith))))
 
   pub over_two : (op : Bin) (s left right : ℕ) → node_at words i ≡ Node.Binary op s left right →
-      (rest : ℕ) → rest ≡ left_over (tree left) (budget - 1) (most - 1) → left_over (tree right) rest (most - 1) ≡ left_over (tree i) budget most
+      (rest : ℕ) → rest ≡ left_over (tree left) (budget - 1) (most - 1) →
+      left_over (tree right) rest (most - 1) ≡ left_over (tree i) budget most
   over_two op s left right e rest is =
       let t = binary op s (tree left) (tree right) in
       rw (tree_of_node live i below _ e, is)

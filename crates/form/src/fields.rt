@@ -10,7 +10,7 @@ fn below_if_used(used: bool, child: usize, i: usize) -> bool
     if used { child < i } else { child == 0 }
 }
 
-// Each field as the kind's line of the table has it.
+/// Each field as the kind's line of the table has it.
 pub fn row_fits(row: Row, word: u64, payload: u64, i: usize) -> bool
     ensures { result ≡ row_fits row word payload i }
 {

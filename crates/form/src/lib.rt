@@ -61,5 +61,5 @@ pub fn check(words: &[u64], count: usize, root: usize) -> Result<(), Refusal>
         return Err(Refusal::RootNotBelowCount);
     }
     scan(words, count)?;
-    limits::limited(Nodes { words, count }, root)
+    limits::limited(&Nodes { words, count }, root)
 }

@@ -11,9 +11,9 @@ use words::{MAX_PATH, MAX_UNFOLDED};
 
 // What is left of a budget after the nodes of the tree under i, or 0; 0 too where a path from i has more than `most`
 // nodes. Each node of the unfolded tree is visited at most once.
-fn left_over(nodes: Nodes<'_>, i: usize, budget: u64, most: u64) -> u64
-    requires { i < nodes.count }
-    ensures { result ≡ left_over (tree_of nodes.entry.count nodes.entry.words.now i) budget most }
+fn left_over(nodes: &Nodes<'_>, i: usize, budget: u64, most: u64) -> u64
+    requires { i < nodes.now.count }
+    ensures { result ≡ left_over (tree_of nodes.now.count nodes.now.words.now i) budget most }
 {
     if budget == 0 || most == 0 {
         return 0;
@@ -28,11 +28,11 @@ fn left_over(nodes: Nodes<'_>, i: usize, budget: u64, most: u64) -> u64
     }
 }
 
-// Both limits in one walk. Where it has nothing left, a second one tells which limit it was: the nodes come first. A path is
-// no longer than its tree, so that walk ends early only where there are too many nodes.
-pub fn limited(nodes: Nodes<'_>, root: usize) -> Result<(), Refusal>
-    requires { root < nodes.count }
-    ensures { result ≡ limited (tree_of nodes.entry.count nodes.entry.words.now root) }
+/// Both limits in one walk. Where it has nothing left, a second one tells which limit it was: the nodes come first. A path is
+/// no longer than its tree, so that walk ends early only where there are too many nodes.
+pub fn limited(nodes: &Nodes<'_>, root: usize) -> Result<(), Refusal>
+    requires { root < nodes.now.count }
+    ensures { result ≡ limited (tree_of nodes.now.count nodes.now.words.now root) }
 {
     if 0 < left_over(nodes, root, MAX_UNFOLDED + 1, MAX_PATH) {
         return Ok(());

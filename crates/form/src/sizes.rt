@@ -9,10 +9,11 @@ use format::{Row, Sizing};
 // Top's number.
 const KIND_TOP: usize = 0;
 
+/// Whether a value may have this size. `matches!` would compile to jumps.
 pub fn is_size(size: u64) -> bool
     ensures { result ≡ is_size size }
 {
-    matches!(size, 1 | 2 | 4 | 8)
+    (size == 1) | ((size == 2) | ((size == 4) | (size == 8)))
 }
 
 fn same_size(size: u64, child: Option<u64>) -> bool
@@ -33,7 +34,7 @@ fn one_size(left: Option<u64>, right: Option<u64>) -> bool
     left.is_none_or(|bytes| same_size(bytes, right))
 }
 
-// Whether a value fits `size` bytes. Every word fits eight.
+/// Whether a value fits `size` bytes. Every word fits eight.
 pub fn fits(value: u64, size: u64) -> bool
     ensures { result ≡ ltb value (2 ^ (8 * size)) }
 {
@@ -67,7 +68,7 @@ fn child_size(words: &[u64], used: bool, child: usize) -> Option<u64>
     (words::fields::kind_of(word) != KIND_TOP).then_some(words::fields::size_of(word))
 }
 
-// The rule of a row, at a node whose children lie in the slice.
+/// The rule of a row, at a node whose children lie in the slice.
 pub fn row_sized(words: &[u64], row: Row, word: u64, payload: u64) -> bool
     requires word_in_bounds { leb 1 row.arity ≡ true → node_words * left_of word + 1 < length words.now }
     requires word_in_bounds_2 { leb 2 row.arity ≡ true → node_words * right_of word + 1 < length words.now }

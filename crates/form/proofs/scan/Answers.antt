@@ -9,7 +9,10 @@ loop-i-preserved c =
     let passed = passes _ c.if-is_err.ensures.value in
     record {
       passing = passed;
-      rest_decides = c.loop-i.invariant.rest_decides ∙ scan_goes_on _ _ c.loop-i.i c.loop-i-test.true ∙ rw (← c.judge-verdict.ensures, passed);
+      rest_decides =
+          c.loop-i.invariant.rest_decides
+          ∙ scan_goes_on _ _ c.loop-i.i c.loop-i-test.true
+          ∙ rw (← c.judge-verdict.ensures, passed);
     }
 
 pub returns-after-loop-i : goal.returns-after-loop-i

@@ -6,4 +6,5 @@ use Rattle.eval.proofs.rows.good_row.Goals as goal
 pub returns-in-len3 : goal.returns-in-len3
 unfolding good_row
 returns-in-len3 c =
-    rw (c.is_size.ensures, c.fits.ensures, c.size_of-size.ensures, eq-eqb (length c.args.row.now) 3 (omega (arith, c.in-len3.len_at_least, c.in-len3.len_below)))
+    let whole = eq-eqb (length c.args.row.now) 3 (omega (arith, c.in-len3.len_at_least, c.in-len3.len_below)) in
+    rw (c.is_size.ensures, c.fits.ensures, c.size_of-size.ensures, whole)
