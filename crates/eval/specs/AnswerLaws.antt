@@ -46,6 +46,13 @@ answer_step rows word payload child_size answer i (Node.Bind s id) = ok_or (foun
 answer_step rows word payload child_size answer i (Node.Unary op s left) = over_one op s (child_size left) (answer left)
 answer_step rows word payload child_size answer i (Node.Binary op s left right) = over_two op s (child_size left) (answer left) (answer right)
 
+-- what was found tells an input's answer
+pub found_answer : (rows : List ℕ) (word payload i v : ℕ) → Some v ≡ found rows word payload → Ok v ≡ ok_or (found rows word payload) i
+found_answer rows word payload i v e = rw (sym e)
+
+pub nothing_answer : (rows : List ℕ) (word payload i : ℕ) → None ≡ found rows word payload → Err i ≡ ok_or (found rows word payload) i
+nothing_answer rows word payload i e = rw (sym e)
+
 answered_input : (i : ℕ) (row : Option ℕ) → answered (unless_found row i) (or_zero row) ≡ ok_or row i
 answered_input i None = refl
 answered_input i (Some v) = refl

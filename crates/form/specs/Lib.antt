@@ -1,2 +1,4 @@
 pub mod Judged
 pub mod Walks
+pub mod Paths
+pub mod Children

@@ -25,6 +25,10 @@ Says words n i (Err Refusal.RootNotBelowCount) = ⊥
 Says words n i (Err Refusal.TooManyNodes) = ⊥
 Says words n i (Err Refusal.PathTooLong) = ⊥
 
+-- what is refused stays refused, whatever comes after
+pub refused : (refusal : Refusal) (next : Verdict) → or_else (Err refusal) next ≡ Err refusal
+refused refusal next = refl
+
 module _ (words : List ℕ) where
   -- one node
   here : (i : ℕ) → First words 1 i i
