@@ -2,7 +2,6 @@
 // IntCarry, IntSCarry and IntSBorrow have no file of their own: two constants fold (decide.rt), and equal trees under IntSBorrow give 0
 // (`equals`). Beside a constant (`beside`), they stay.
 ghost use Rattle.std.specs.Prelude.{◌≡◌};
-ghost use Rattle.arith.specs.Operands.{Size};
 ghost use Rattle.manual.specs.Operations.{int_sub};
 ghost use Rattle.rules.specs.Rules.{rule_of, moved as moved_by};
 
@@ -11,6 +10,7 @@ use crate::mul::mul_beside;
 use crate::or::or_beside;
 use crate::sub::sub_beside;
 use crate::xor_shift::xor_shift_beside;
+use arith::width::Width;
 use format::Bin;
 use rules::{Beside, Equals, View};
 use signed::{Difference, wrapped_difference};
@@ -25,15 +25,14 @@ pub fn moved(a: u64, n: u64, negative: Bin, otherwise: Bin) -> Beside
     }
 }
 
-pub fn beside(op: Bin, size: u64, e: View, n: u64) -> Beside
-    requires { Size size }
-    ensures { result ≡ (rule_of op).beside size e n }
+pub fn beside(op: Bin, width: Width, e: View, n: u64) -> Beside
+    ensures { result ≡ (rule_of op).beside width.bytes e n }
 {
     match op {
         Bin::Add => add_beside(e, n),
         Bin::Sub => sub_beside(e, n),
         Bin::Mul => mul_beside(n),
-        Bin::Or => or_beside(size, n),
+        Bin::Or => or_beside(width, n),
         Bin::Xor | Bin::IntLeftShift | Bin::IntRightShift | Bin::IntSignedRightShift =>
             xor_shift_beside(n),
         Bin::IntCarry | Bin::IntSCarry | Bin::IntSBorrow => Beside::Stay,

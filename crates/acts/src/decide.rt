@@ -10,6 +10,7 @@ use crate::int2comp::neg_act;
 use crate::sign_extend::sext_act;
 use crate::view::view_at;
 use arena::Nodes;
+use arith::width::Width;
 use format::{Bin, Un};
 use rules::{Act, Beside, Equals, Near};
 
@@ -55,13 +56,14 @@ pub fn bin_act(nodes: Nodes<'_>, op: Bin, size: u64, a: usize, b: usize) -> Act
     ensures { result ≡ bin_act op size (tree_of nodes.entry.count nodes.entry.words.now a)
         (tree_of nodes.entry.count nodes.entry.words.now b) }
 {
+    let width = Width { bytes: size };
     let left = view_at(nodes, a);
     let right = view_at(nodes, b);
     match (left.constant(), right.constant()) {
         (None, None) => equal_act(nodes, op, a, b),
-        (Some(m), None) if swaps(op) => beside_act(beside(op, size, right, m), true),
+        (Some(m), None) if swaps(op) => beside_act(beside(op, width, right, m), true),
         (Some(_), None) => Act::Keep,
-        (None, Some(n)) => beside_act(beside(op, size, left, n), false),
+        (None, Some(n)) => beside_act(beside(op, width, left, n), false),
         (Some(m), Some(n)) => Act::Make(values::bin_value(op, size, nodes.node(a).size(), m, n)),
     }
 }

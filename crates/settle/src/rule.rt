@@ -6,6 +6,7 @@ ghost use Rattle.settle.specs.Visits.{OneIn, TwoIn, OneRuns, TwoRuns, outcome_of
 use crate::writer::settle;
 use acts::decide;
 use arena::{Arena, NoRoom};
+use arith::width::Width;
 use format::{Bin, Un};
 use rules::Act;
 
@@ -52,23 +53,27 @@ fn outcome_of(again: bool, root: usize) -> Outcome
 }
 
 /// The rule of a node whose child has become a.
+#[tactic(auto, using(acts::specs::Decided::un_over_size))]
 pub fn one_rule(arena: &mut Arena<'_>, node: One, a: usize) -> Result<Outcome, NoRoom>
     requires { OneIn arena.old node a }
     ensures { OneRuns arena.old arena.new node a result }
 {
+    let width = Width { bytes: node.size };
     let act = decide::un_act(arena.nodes(), node.op, node.size, a);
     let kept = (a == node.left).then_some(node.index);
-    let root = settle(arena, act, kept, node.op, node.size, a, a)?;
+    let root = settle(arena, act, kept, node.op, width, a, a)?;
     Ok(outcome_of(redoes(act), root))
 }
 
 /// The rule of a node whose children have become a and b.
+#[tactic(auto, using(acts::specs::Decided::over_size))]
 pub fn two_rule(arena: &mut Arena<'_>, node: Two, a: usize, b: usize) -> Result<Outcome, NoRoom>
     requires { TwoIn arena.old node a b }
     ensures { TwoRuns arena.old arena.new node a b result }
 {
+    let width = Width { bytes: node.size };
     let act = decide::bin_act(arena.nodes(), node.op, node.size, a, b);
     let kept = ((a == node.left) & (b == node.right)).then_some(node.index);
-    let root = settle(arena, act, kept, node.op, node.size, a, b)?;
+    let root = settle(arena, act, kept, node.op, width, a, b)?;
     Ok(outcome_of(redoes(act), root))
 }

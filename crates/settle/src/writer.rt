@@ -3,12 +3,12 @@ ghost use Rattle.std.specs.Prelude.{◌≡◌, ◌<◌, ℕ};
 ghost use Rattle.std.specs.Option.{ForSome};
 ghost use Rattle.format.specs.declared.Node.{Node};
 ghost use Rattle.rules.specs.Run.{append, make_const};
-ghost use Rattle.arith.specs.Operands.{Size};
 ghost use Rattle.arena.specs.Live.{New};
 ghost use Rattle.arena.specs.Ends.{Ends};
 ghost use Rattle.settle.specs.Settled.{nodes_in, settled, Settles};
 
 use arena::{Arena, NoRoom};
+use arith::width::Width;
 use format::{Bin, Node, Un};
 use rules::Act;
 use values::make_const;
@@ -38,12 +38,11 @@ impl Operator for Bin {
     }
 }
 
-fn push_const(arena: &mut Arena<'_>, size: u64, v: u64) -> Result<usize, NoRoom>
-    requires size { Size size }
-    requires new { New (nodes_in arena.old) (make_const size v) }
-    ensures { Ends arena.old arena.new (append (make_const size v) (nodes_in arena.old)) result }
+fn push_const(arena: &mut Arena<'_>, width: Width, v: u64) -> Result<usize, NoRoom>
+    requires { New (nodes_in arena.old) (make_const width.bytes v) }
+    ensures { Ends arena.old arena.new (append (make_const width.bytes v) (nodes_in arena.old)) result }
 {
-    arena.push(make_const(size, v))
+    arena.push(make_const(width, v))
 }
 
 // Carries an action out on a node, short of simplifying again. Its simplified children are a and b, and where it has them
@@ -53,15 +52,16 @@ pub fn settle<O: Operator>(
     act: Act,
     kept: Option<usize>,
     op: O,
-    size: u64,
+    width: Width,
     a: usize,
     b: usize,
 ) -> Result<usize, NoRoom>
     requires kept_lt_count { ForSome kept (λ i. i < arena.old.count) }
-    requires a_lt_count { (a < arena.old.count) × (b < arena.old.count) × Size size }
-    requires settles { Settles (nodes_in arena.old) act (O.over_of op size a b) (O.over_of op size b a) size a b }
-    ensures { Ends arena.old arena.new (settled act kept (O.over_of op size) size (nodes_in arena.old) a b) result }
+    requires a_lt_count { (a < arena.old.count) × (b < arena.old.count) }
+    requires settles { Settles (nodes_in arena.old) act (O.over_of op width.bytes a b) (O.over_of op width.bytes b a) width.bytes a b }
+    ensures { Ends arena.old arena.new (settled act kept (O.over_of op width.bytes) width.bytes (nodes_in arena.old) a b) result }
 {
+    let size = width.bytes;
     match act {
         Act::Keep => match kept {
             Some(i) => Ok(i),
@@ -69,10 +69,10 @@ pub fn settle<O: Operator>(
         },
         Act::Swap => arena.push(op.over(size, b, a)),
         Act::Give(which) => Ok(arena.nodes().near(which, a, b)),
-        Act::Make(v) => push_const(arena, size, v),
+        Act::Make(v) => push_const(arena, width, v),
         Act::Redo(bin, which, v) => {
             let left = arena.nodes().near(which, a, b);
-            let right = push_const(arena, size, v)?;
+            let right = push_const(arena, width, v)?;
             arena.push(Node::Binary(bin, size, left, right))
         }
         Act::RedoUnary(un, which) => {

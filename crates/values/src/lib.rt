@@ -3,7 +3,7 @@
 #![tactic(auto)]
 
 ghost use Rattle.std.specs.Prelude.{◌≡◌};
-ghost use Rattle.arith.specs.Operands.{Extension, Size};
+ghost use Rattle.arith.specs.Operands.{Extension};
 ghost use Rattle.tree.specs.Meaning.{un_value, bin_value};
 ghost use Rattle.tree.specs.Form.{bin_sizing};
 ghost use Rattle.rules.specs.Run.{make_const};
@@ -48,9 +48,8 @@ pub fn bin_value(op: Bin, size: u64, child: u64, x: u64, y: u64) -> u64
 }
 
 // What a rule makes of a 64-bit number: its low bits, as many as the size has.
-pub fn make_const(size: u64, v: u64) -> Node
-    requires { Size size }
-    ensures { result ≡ make_const size v }
+pub fn make_const(width: Width, v: u64) -> Node
+    ensures { result ≡ make_const width.bytes v }
 {
-    Node::Const(size, Width { bytes: size }.cut(v))
+    Node::Const(width.bytes, width.cut(v))
 }

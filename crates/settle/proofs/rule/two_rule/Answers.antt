@@ -1,15 +1,9 @@
 -- A rule of two children: its decision, carried out. Assumes nothing.
 use Rattle.std.proofs.Common.{refl}
 use Rattle.std.proofs.lemmas.Result.{err_from_is_err_and}
-use Rattle.acts.specs.Decided.{over_size}
 use Rattle.settle.specs.Settled.{settles_binary}
 use Rattle.settle.specs.Visits.{two_runs}
 use Rattle.settle.proofs.rule.two_rule.Goals as goal
-
-pub settle-requires-clause-a_lt_count : goal.settle-requires-clause-a_lt_count
-settle-requires-clause-a_lt_count c =
-    let over = c.requires.over in
-    (over.left_below, over.right_below, over_size over)
 
 pub settle-requires-clause-settles : goal.settle-requires-clause-settles
 settle-requires-clause-settles c =

@@ -13,7 +13,7 @@ returns-in_ok-right-in-Redo g c =
       same_reference = c.push-in-Redo.ensures.same_reference ∙ c.in_ok-right-in-Redo.ensures.same_reference;
       ended =
           rw (c.in-Redo.is, sym left)
-          (redo_ended c.args.arena.now.words.now c.push_const-in-Redo.new.arena.words.now c.args.arena.now.count c.in-Redo.bin c.args.size c.near-left.result c.in-Redo.v
+          (redo_ended c.args.arena.now.words.now c.push_const-in-Redo.new.arena.words.now c.args.arena.now.count c.in-Redo.bin c.args.width.bytes c.near-left.result c.in-Redo.v
           c.in_ok-right-in-Redo.right c.push_const-in-Redo.new.arena.count c.in_ok-right-in-Redo.ensures.ended
           c.push-in-Redo.new.self.words.now _ c.push-in-Redo.ensures.ended);
     }
