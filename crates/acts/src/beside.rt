@@ -15,7 +15,7 @@ use format::Bin;
 use rules::{Beside, Equals, View};
 use signed::{Difference, wrapped_difference};
 
-// e's left child moved by the difference a - n, wrapped and read as an i64: a negative one goes the other way by its amount.
+/// e's left child moved by the difference a - n, wrapped and read as an i64: a negative one goes the other way by its amount.
 pub fn moved(a: u64, n: u64, negative: Bin, otherwise: Bin) -> Beside
     ensures { result ≡ moved_by (int_sub 64 a n) negative otherwise }
 {
@@ -25,6 +25,7 @@ pub fn moved(a: u64, n: u64, negative: Bin, otherwise: Bin) -> Beside
     }
 }
 
+/// Each kind's own rule. A match, and no table of functions: the kinds are closed, and their rules take different things.
 pub fn beside(op: Bin, width: Width, e: View, n: u64) -> Beside
     ensures { result ≡ (rule_of op).beside width.bytes e n }
 {

@@ -11,7 +11,8 @@ use format::{Node, Shape};
 use rules::Near;
 use words::{MAX_NODES, NODE_WORDS};
 
-// How many kinds have no children: the first ones, Top, Entry, Const and Bind.
+// How many kinds have no children: the first ones, Top, Entry, Const and Bind. A number of kinds, and no match on the shape, since
+// that one compiles to a table and branches where this is a compare.
 const LEAF_KINDS: usize = 4;
 
 /// How many nodes a slice of `len` words holds.
@@ -45,7 +46,8 @@ pub fn node_at(words: &[u64], i: usize) -> Node
     words::nodes::node_of(header_at(words, i), payload_at(words, i))
 }
 
-/// A slice whose first `count` nodes have passed the check, or have been appended to such, for reading.
+/// A slice whose first `count` nodes have passed the check, or have been appended to such, for reading. Trees are indices into it,
+/// and no boxes: C hands the slice in, and nothing is allocated.
 #[derive(Clone, Copy)]
 pub struct Nodes<'a> {
     pub words: &'a [u64],

@@ -36,7 +36,7 @@ pub fn neg_at(width: Width, a: u64) -> u64
     width.cut(wrapping_neg(a))
 }
 
-// Bit by bit, and so alike at every width.
+/// Bit by bit, and so alike at every width.
 pub fn xor_at(width: Width, a: u64, b: u64) -> u64
     ensures { result ≡ int_xor (8 * width.bytes) a b }
 {

@@ -16,7 +16,7 @@ impl Width {
         8 * self.bytes
     }
 
-    // As many ones as there are bits. A shift by 64 is no shift, so the widest mask is written out.
+    /// As many ones as there are bits. A shift by 64 is no shift, so the widest mask is written out.
     pub fn mask(self) -> u64
         ensures { result ≡ 2 ^ (8 * self.bytes) - 1 }
     {
@@ -27,14 +27,14 @@ impl Width {
         }
     }
 
-    // The top bit.
+    /// The top bit.
     pub fn sign_bit(self) -> u64
         ensures { result ≡ 2 ^ (8 * self.bytes - 1) }
     {
         1u64 << (self.bits() - 1)
     }
 
-    // The low bits: what a constant of this width keeps of a 64-bit number.
+    /// The low bits: what a constant of this width keeps of a 64-bit number.
     #[tactic(auto, using(std::proofs::lemmas::Nat::and_mask))]
     pub fn cut(self, v: u64) -> u64
         ensures { result ≡ v % 2 ^ (8 * self.bytes) }

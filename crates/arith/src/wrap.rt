@@ -1,4 +1,5 @@
-// Arithmetic that wraps at 64 bits, beside std's `wrapping_add` and `wrapping_sub`.
+// Arithmetic that wraps at 64 bits, beside std's `wrapping_add` and `wrapping_sub`. The project writes these itself, by its rule that
+// what folds a constant is read here whole (docs/DECISIONS.md).
 ghost use Rattle.std.specs.Prelude.{◌≡◌, ◌%◌};
 ghost use Rattle.manual.specs.Operations.{int_mult, int_2comp, int_left, int_right};
 
@@ -8,7 +9,7 @@ pub fn wrapping_neg(a: u64) -> u64
     if a == 0 { 0 } else { (u64::MAX - a) + 1 }
 }
 
-// By halves of 32 bits: the product of the high halves lies past the 64.
+/// By halves of 32 bits: the product of the high halves lies past the 64.
 #[tactic(auto, using(crate::proofs::Product::by_halves))]
 pub fn wrapping_mul(a: u64, b: u64) -> u64
     ensures { result ≡ int_mult 64 a b }
@@ -21,7 +22,7 @@ pub fn wrapping_mul(a: u64, b: u64) -> u64
     (a_low * b_low).wrapping_add(middle << 32)
 }
 
-// As Rust's wrapping shifts, these take the count modulo 64.
+/// As Rust's wrapping shifts, these take the count modulo 64.
 pub fn wrapping_shl(a: u64, n: u64) -> u64
     ensures { result ≡ int_left 64 a (n % 64) }
 {

@@ -40,7 +40,8 @@ impl Evaluation<'_> {
         rows::find(self.rows, self.nodes.header(i), self.nodes.payload(i)).ok_or(i)
     }
 
-    /// The value of the tree under node i, from which no Top is reached, or the index of the first input without a row.
+    /// The value of the tree under node i, from which no Top is reached, or the index of the first input without a row: that
+    /// alone, since a result over `EvaluateError` comes back through memory at each node of the walk.
     pub fn value_at(&self, i: usize) -> Result<u64, usize>
         requires i_lt_count { i < self.now.nodes.count }
         requires topless { has_top (tree_of self.now.nodes.count self.now.nodes.words.now i) ≡ false }

@@ -2,7 +2,7 @@
 ghost use Rattle.std.specs.Prelude.{◌≡◌};
 ghost use Rattle.file.specs.Bytes.{number_at};
 
-// How many bytes a word takes.
+/// How many bytes a word takes.
 pub const WORD_BYTES: usize = 8;
 
 #[tactic(auto, using(crate::specs::Bytes::eight_bytes))]

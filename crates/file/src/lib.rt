@@ -12,7 +12,7 @@ use bytes::WORD_BYTES;
 use simplifier::exports::SimplifyReply;
 use words::NODE_WORDS;
 
-// How many words the program's arena has.
+/// How many words the program's arena has.
 pub const PROGRAM_WORDS: usize = 4096;
 // How many bytes the file's head takes, and a node.
 const HEAD_BYTES: usize = WORD_BYTES;
@@ -20,11 +20,11 @@ const HEAD_BYTES: usize = WORD_BYTES;
 const NODE_BYTES: usize = WORD_BYTES * NODE_WORDS;
 // The head has the count above the root: this is what the root stays below.
 const ROOT_BOUND: u64 = 0x1_0000_0000;
-// Answer 11: a bad file.
+// Answer 11, a bad file: a number, as in the reply that C gets.
 const BAD_FILE: u64 = 11;
 
-// What a good file's head says of its nodes.
-#[derive(Clone, Copy)]
+/// What a good file's head says of its nodes.
+#[derive(Clone, Copy, Debug, PartialEq, Eq)]
 pub struct Head {
     pub count: usize,
     pub root: usize,
@@ -56,7 +56,7 @@ fn lay(bytes: &[u8], words: &mut [u64])
     }
 }
 
-// The answer to a file, worked out in the lent words. They are an arena of as many nodes as they hold.
+/// The answer to a file, worked out in the lent words. They are an arena of as many nodes as they hold.
 #[tactic(auto, using(crate::specs::FileLaws::answers))]
 pub fn answer(bytes: &[u8], words: &mut [u64]) -> SimplifyReply
     ensures answer { result ≡ file_reply bytes.now words.old }
@@ -74,7 +74,7 @@ pub fn answer(bytes: &[u8], words: &mut [u64]) -> SimplifyReply
     simplifier::exports::santofunye_simplify(words, count, root)
 }
 
-// The program's answer to a file: it lends an array of zeros.
+/// The program's answer to a file: it lends an array of zeros.
 pub fn program_answer(bytes: &[u8]) -> SimplifyReply
     ensures { result ≡ program_reply bytes.now }
 {

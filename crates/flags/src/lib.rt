@@ -8,7 +8,7 @@ ghost use Rattle.arith.specs.Operands.{Fits};
 use arith::ops::{add_at, sub_at};
 use arith::width::Width;
 
-// The sum takes two words at size 8. The high one is 1 exactly if the low one wrapped, below `a`.
+/// The sum takes two words at size 8. The high one is 1 exactly if the low one wrapped, below `a`.
 #[tactic(auto, unfolding(manual::specs::Operations::int_carry))]
 pub fn carry_at(width: Width, a: u64, b: u64) -> u64
     requires left { Fits width.bytes a }
@@ -19,7 +19,7 @@ pub fn carry_at(width: Width, a: u64, b: u64) -> u64
     u64::from(low < a || low > width.mask())
 }
 
-// The signed sum does not fit if its sign differs from the sign of both operands.
+/// The signed sum does not fit if its sign differs from the sign of both operands.
 #[tactic(auto, using(crate::proofs::Overflow::signs_of_sum))]
 pub fn scarry_at(width: Width, a: u64, b: u64) -> u64
     requires left { Fits width.bytes a }
@@ -30,7 +30,7 @@ pub fn scarry_at(width: Width, a: u64, b: u64) -> u64
     ((a ^ sum) & (b ^ sum)) >> (width.bits() - 1)
 }
 
-// The signed difference does not fit if the operands' signs differ and its own differs from that of `a`.
+/// The signed difference does not fit if the operands' signs differ and its own differs from that of `a`.
 #[tactic(auto, using(crate::proofs::Overflow::signs_of_difference))]
 pub fn sborrow_at(width: Width, a: u64, b: u64) -> u64
     requires left { Fits width.bytes a }

@@ -6,7 +6,7 @@ ghost use Rattle.tree.specs.Form.{is_size, same_size, no_wider, one_size, sized 
 
 use format::{Row, Sizing};
 
-// Top's number.
+// Top's number. A number, and no shape, since an unknown kind has Top's shape too, and the definition tells them apart.
 const KIND_TOP: usize = 0;
 
 /// Whether a value may have this size. `matches!` would compile to jumps.

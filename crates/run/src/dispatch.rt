@@ -40,8 +40,8 @@ fn visit_two(arena: &mut Arena<'_>, node: Two, ready: bool) -> Result<usize, NoR
     after_two(arena, node, a, b)
 }
 
-// Visits node i: a leaf is itself. `ready` tells that a rule has rebuilt the node over simplified children: to visit them
-// would append nothing and return their indices.
+/// Visits node i: a leaf is itself. `ready` tells that a rule has rebuilt the node over simplified children: to visit them
+/// would append nothing and return their indices.
 #[cycle(visits)]
 pub fn visit(arena: &mut Arena<'_>, i: usize, ready: bool) -> Result<usize, NoRoom>
     requires { (i < arena.old.count) × Prepared ready (tree_in arena.old i) }

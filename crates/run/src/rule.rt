@@ -16,7 +16,7 @@ fn is_top(arena: &Arena<'_>, i: usize) -> bool
     arena.nodes().node(i).is_top()
 }
 
-// The node, whose child has become a.
+/// The node, whose child has become a.
 #[cycle(visits)]
 pub fn after_one(arena: &mut Arena<'_>, node: One, a: usize) -> Result<usize, NoRoom>
     requires { OneReadyIn arena.old node a }
@@ -31,7 +31,7 @@ pub fn after_one(arena: &mut Arena<'_>, node: One, a: usize) -> Result<usize, No
     }
 }
 
-// The node, whose children have become a and b.
+/// The node, whose children have become a and b.
 #[cycle(visits)]
 pub fn after_two(arena: &mut Arena<'_>, node: Two, a: usize, b: usize) -> Result<usize, NoRoom>
     requires { TwoReadyIn arena.old node a b }

@@ -10,8 +10,9 @@ use arith::width::Width;
 use format::{Bin, Un};
 use rules::Act;
 
-/// A node of one child: its index and its fields.
-#[derive(Clone, Copy)]
+/// A node of one child: its index and its fields. Nodes of one child and of two have functions of their own from here on, as the
+/// definitions of the run have: they differ in more than a type.
+#[derive(Clone, Copy, Debug, PartialEq, Eq)]
 pub struct One {
     pub index: usize,
     pub op: Un,
@@ -20,7 +21,7 @@ pub struct One {
 }
 
 /// A node of two children: its index and its fields.
-#[derive(Clone, Copy)]
+#[derive(Clone, Copy, Debug, PartialEq, Eq)]
 pub struct Two {
     pub index: usize,
     pub op: Bin,

@@ -13,7 +13,7 @@ use format::{Bin, Node, Un};
 use rules::Act;
 use values::make_const;
 
-// An operator, of one child or of two.
+/// An operator, of one child or of two.
 pub trait Operator: Copy {
     ghost over_of: { Self → (size a b : ℕ) → Node };
 
@@ -45,8 +45,8 @@ fn push_const(arena: &mut Arena<'_>, width: Width, v: u64) -> Result<usize, NoRo
     arena.push(make_const(width, v))
 }
 
-// Carries an action out on a node, short of simplifying again. Its simplified children are a and b, and where it has them
-// still, `kept` is its index.
+/// Carries an action out on a node, short of simplifying again. Its simplified children are a and b, and where it has them
+/// still, `kept` is its index.
 pub fn settle<O: Operator>(
     arena: &mut Arena<'_>,
     act: Act,

@@ -30,7 +30,7 @@ fn signed_at(width: Width, a: u64) -> i64
     sign_extended(width, a).cast_signed()
 }
 
-// Past the width the sign fills every bit, and a shift by 63 leaves nothing else.
+/// Past the width the sign fills every bit, and a shift by 63 leaves nothing else.
 #[tactic(auto, using(crate::proofs::Signs::shifted))]
 pub fn signed_right_at(width: Width, a: u64, n: u64) -> u64
     requires { Fits width.bytes a }
@@ -49,7 +49,7 @@ pub fn sign_extend_at(from: Width, to: Width, a: u64) -> u64
     to.cut(sign_extended(from, a))
 }
 
-// Whether a constant is negative as an i64. Its own size plays no part: 0xFF of one byte is 255.
+/// Whether a constant is negative as an i64. Its own size plays no part: 0xFF of one byte is 255.
 pub fn is_negative(n: u64) -> bool
     ensures { result ≡ negative64 n }
 {

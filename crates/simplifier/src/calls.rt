@@ -1,4 +1,5 @@
-// The calls. None asks anything of its caller: bad input is refused by a number, and the contract gives every word.
+// The calls. None asks anything of its caller: bad input is refused by an error, and the contract gives every word. The slice, the
+// count and the root come apart, as C hands them in.
 ghost use Rattle.std.specs.Prelude.{◌≡◌, ◌<◌};
 ghost use Rattle.tree.specs.Form.{checked};
 ghost use Rattle.tree.specs.Rows.{evaluated};

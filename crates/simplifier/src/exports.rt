@@ -1,4 +1,4 @@
-// The calls for Rust, and for C through the crate simplifier_c: numbers, places and values, in structs.
+// The calls for Rust, and for C through the crate simplifier_c: numbers, places and values, in structs, as C has them.
 ghost use Rattle.std.specs.Prelude.{◌≡◌, Some};
 ghost use Rattle.tree.specs.Form.{checked};
 ghost use Rattle.tree.specs.Rows.{evaluated};
@@ -11,14 +11,14 @@ use std::fmt;
 use tree::{EvaluateError, Refusal};
 
 #[repr(C)]
-#[derive(Clone, Copy)]
+#[derive(Clone, Copy, Debug, PartialEq, Eq)]
 pub struct CheckReply {
     pub number: u64,
     pub place: u64,
 }
 
 #[repr(C)]
-#[derive(Clone, Copy)]
+#[derive(Clone, Copy, Debug, PartialEq, Eq)]
 pub struct SimplifyReply {
     pub number: u64,
     pub place: u64,
@@ -27,7 +27,7 @@ pub struct SimplifyReply {
 }
 
 #[repr(C)]
-#[derive(Clone, Copy)]
+#[derive(Clone, Copy, Debug, PartialEq, Eq)]
 pub struct EvaluateReply {
     pub number: u64,
     pub place: u64,

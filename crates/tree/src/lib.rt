@@ -4,7 +4,7 @@
 ghost use Rattle.std.specs.Prelude.{◌≡◌};
 ghost use Rattle.tree.specs.declared.EvaluateError.TheVariants.{Refused};
 
-// Answers 1 to 6.
+/// Answers 1 to 6.
 #[derive(Clone, Copy, Debug, PartialEq, Eq)]
 pub enum Refusal {
     CountAboveCapacity,
@@ -43,7 +43,7 @@ impl Refusal {
     }
 }
 
-// The check's refusal, or answers 8, 10 and 9.
+/// The check's refusal, or answers 8, 10 and 9.
 #[derive(Clone, Copy, Debug, PartialEq, Eq)]
 pub enum EvaluateError {
     Refused(Refusal),

@@ -13,7 +13,7 @@ use arith::ops;
 use arith::width::Width;
 use format::{Bin, Node, Un};
 
-// x is a number of `child` bytes.
+/// x is a number of `child` bytes.
 #[tactic(auto, using(std::proofs::lemmas::Nat::pow_below))]
 pub fn un_value(op: Un, size: u64, child: u64, x: u64) -> u64
     requires { Extension child size x }
@@ -26,7 +26,7 @@ pub fn un_value(op: Un, size: u64, child: u64, x: u64) -> u64
     }
 }
 
-// x is a number of `child` bytes. A flag is of its operands, of the children's size.
+/// x is a number of `child` bytes. A flag is of its operands, of the children's size.
 #[tactic(auto, unfolding(format::specs::Kinds::row_of))]
 pub fn bin_value(op: Bin, size: u64, child: u64, x: u64, y: u64) -> u64
     requires { Fitting (bin_sizing op) size child x y }
@@ -47,7 +47,7 @@ pub fn bin_value(op: Bin, size: u64, child: u64, x: u64, y: u64) -> u64
     }
 }
 
-// What a rule makes of a 64-bit number: its low bits, as many as the size has.
+/// What a rule makes of a 64-bit number: its low bits, as many as the size has.
 pub fn make_const(width: Width, v: u64) -> Node
     ensures { result ≡ make_const width.bytes v }
 {

@@ -60,7 +60,7 @@ const TWO_FLAG: Row = Row {
     ..TWO_SAME
 };
 
-// A line for each kind, from number 0.
+// A line for each kind, from number 0: the words that C hands in have numbers, and a scan reads the table by them.
 const KINDS: [Row; KIND_COUNT] = [
     TOP,
     ENTRY,
@@ -88,7 +88,8 @@ pub fn table() -> [Row; KIND_COUNT]
     KINDS
 }
 
-// The operator of a kind of two children, whose number is one from 4 to 15 other than 12.
+// The operator of a kind of two children, whose number is one from 4 to 15 other than 12. Two functions, this and `shape_of`, since
+// one match has a jump for each of seventeen kinds, which is hard to predict.
 #[tactic(auto, unfolding(format::specs::Kinds::shape_of))]
 fn bin_of(kind: usize) -> Bin
     requires { (4 ≤ kind) × (kind < 16) × (kind ≡ 12 → ⊥) }
@@ -109,7 +110,7 @@ fn bin_of(kind: usize) -> Bin
     }
 }
 
-/// A number that is no kind's has Top's shape. The operators of two children are read off a table, with no jump for each of them.
+/// The shape of a header's number. A number that is no kind's has Top's shape, as the definition says (so this is no `TryFrom`).
 #[tactic(auto, unfolding(format::specs::Kinds::shape_of))]
 pub fn shape_of(kind: usize) -> Shape
     ensures { result ≡ shape_of kind }
