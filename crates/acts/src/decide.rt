@@ -68,7 +68,7 @@ pub fn bin_act(nodes: Nodes<'_>, op: Bin, size: u64, a: usize, b: usize) -> Act
     }
 }
 
-#[tactic(auto, using(arena::specs::LiveLaws::size_at))]
+#[tactic(auto, using(arena::specs::LiveLaws::size_at, crate::specs::Decided::sext_fits, crate::specs::Decided::neg_fits))]
 pub fn un_act(nodes: Nodes<'_>, op: Un, size: u64, a: usize) -> Act
     requires { UnaryOver nodes.words.now nodes.count op size a }
     ensures { result ≡ un_act op size (tree_of nodes.entry.count nodes.entry.words.now a) }

@@ -54,7 +54,7 @@ fn outcome_of(again: bool, root: usize) -> Outcome
 }
 
 /// The rule of a node whose child has become a.
-#[tactic(auto, using(acts::specs::Decided::un_over_size))]
+#[tactic(auto, using(acts::specs::Decided::un_over_size, crate::specs::Settled::settles_unary))]
 pub fn one_rule(arena: &mut Arena<'_>, node: One, a: usize) -> Result<Outcome, NoRoom>
     requires { OneIn arena.old node a }
     ensures { OneRuns arena.old arena.new node a result }
@@ -67,7 +67,7 @@ pub fn one_rule(arena: &mut Arena<'_>, node: One, a: usize) -> Result<Outcome, N
 }
 
 /// The rule of a node whose children have become a and b.
-#[tactic(auto, using(acts::specs::Decided::over_size))]
+#[tactic(auto, using(acts::specs::Decided::over_size, crate::specs::Settled::settles_binary))]
 pub fn two_rule(arena: &mut Arena<'_>, node: Two, a: usize, b: usize) -> Result<Outcome, NoRoom>
     requires { TwoIn arena.old node a b }
     ensures { TwoRuns arena.old arena.new node a b result }

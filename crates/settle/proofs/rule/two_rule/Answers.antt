@@ -1,13 +1,8 @@
 -- A rule of two children: its decision, carried out. Assumes nothing.
 use Rattle.std.proofs.Common.{refl}
 use Rattle.std.proofs.lemmas.Result.{err_from_is_err_and}
-use Rattle.settle.specs.Settled.{settles_binary}
 use Rattle.settle.specs.Visits.{two_runs}
 use Rattle.settle.proofs.rule.two_rule.Goals as goal
-
-pub settle-requires-clause-settles : goal.settle-requires-clause-settles
-settle-requires-clause-settles c =
-    settles_binary c.args.arena.now.live c.requires.over c.bin_act-act.result (rw (c.nodes.ensures.words, c.nodes.ensures.count) at c.bin_act-act.ensures)
 
 pub returns-in_err-root : goal.returns-in_err-root
 returns-in_err-root c =
