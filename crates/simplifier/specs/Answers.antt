@@ -37,3 +37,6 @@ module _ (words : List ℕ) (count root : ℕ) where
   pub refused_words : (refusal : Refusal) → checked words count root ≡ Err refusal → words_after words count root ≡ words
   unfolding words_after
   refused_words refusal e = ap (λ (r : SimplifiedAnswer). words_left r words count o) (refused_answer refusal e)
+
+-- what simplify is read by
+pub ruleset by_verdict = (passed_answer, passed_words, refused_answer, refused_words)

@@ -49,7 +49,7 @@ pub fn check(words: &[u64], count: usize, root: usize) -> Result<(), Refusal>
     form::check(words, count, root)
 }
 
-#[tactic(auto, using(crate::specs::Answers::refused_answer, crate::specs::Answers::refused_words, crate::specs::Answers::passed_answer, crate::specs::Answers::passed_words))]
+#[tactic(auto, using(crate::specs::Answers::by_verdict))]
 pub fn simplify(words: &mut [u64], count: usize, root: usize) -> Result<Simplified, SimplifyError>
     ensures answer { result ≡ simplified_answer words.old count root }
     ensures left { words.new ≡ words_after words.old count root }
