@@ -59,3 +59,7 @@ constant_of_node tree n = grind arith
 -- beside what is no constant a node of two children shows nothing
 pub no_bin_view : (op : Bin) → bin_view op None ≡ View.Other
 no_bin_view op = grind arith
+
+pub constant_of_node_at : {words : List ℕ} {count : ℕ} → Live words count → (i : ℕ) → i < count →
+    constant_of (tree_of count words i) ≡ node_constant (node_at words i)
+constant_of_node_at {words} {count} l i h = ap constant_of (tree_of_node l i h (node_at words i) refl) ∙ constant_of_node (tree_of count words) (node_at words i)

@@ -132,3 +132,8 @@ module _ {words : List ℕ} {count : ℕ} (l : Live words count) (i : ℕ) (h : 
   left_child_at left e =
       let node = node_at words i in
       rw (e, left_or node i) (ap (λ (n : Node). left_child n i) (sym (at-nodes_of count words i h)), left_below node (below_at node refl))
+
+  -- and so it is of the node
+  pub left_child_read : (node : Node) → node ≡ node_at words i → (left_child node i ≡ left_child (at (nodes_of count words) i) i) × (left_child node i < count)
+  left_child_read node e =
+      (ap (λ (n : Node). left_child n i) (e ∙ sym (at-nodes_of count words i h)), left_below node (below_at node (sym e)))

@@ -15,7 +15,7 @@ use Rattle.format.specs.Limits.{node_words, max_nodes, capacity}
 use Rattle.rules.specs.Call.{simplified_answer, words_after}
 use Rattle.simplifier.specs.Replies.{simplify_reply}
 use Rattle.file.specs.Bytes.{number_at, number_of_rest, number_of_front}
-use Rattle.file.specs.File.{program_words, head_bytes, word_bytes, node_bytes, count_of, head_of, words_from, laid, bad_reply, file_reply, words_after_file}
+use Rattle.file.specs.File.{program_words, head_bytes, word_bytes, node_bytes, count_of, root_of, head_of, words_from, laid, bad_reply, file_reply, words_after_file}
 use Rattle.file.specs.declared.Head.{Head}
 
 -- THE HEAD
@@ -51,6 +51,21 @@ module _ (bytes chunk : List ℕ) (most word : ℕ) (first : IsFirstChunk bytes 
 
 -- what a head is read by
 pub ruleset head_tests = (short_file, count_too_large, other_length, whole_file)
+
+-- and by the count that the bytes have
+module _ (bytes : List ℕ) (most : ℕ) where
+  pub many_nodes : most < count_of bytes → head_of bytes most ≡ None
+  unfolding head_of
+  many_nodes h = rw (lt-leb (count_of bytes) most h)
+
+  pub another_length : count_of bytes ≤ most → ((length bytes ≡ head_bytes + node_bytes * count_of bytes) → ⊥) → head_of bytes most ≡ None
+  unfolding head_of
+  another_length h n = rw (le-leb (count_of bytes) most h, ne_eqb (length bytes) (head_bytes + node_bytes * count_of bytes) n)
+
+  pub whole_of_count : count_of bytes ≤ most → length bytes ≡ head_bytes + node_bytes * count_of bytes →
+      head_of bytes most ≡ Some (record { count = count_of bytes; root = root_of bytes })
+  unfolding head_of
+  whole_of_count h e = rw (le-leb (count_of bytes) most h, eq-eqb (length bytes) (head_bytes + node_bytes * count_of bytes) e)
 
 good_file : (bytes : List ℕ) (most : ℕ) (head : Head) → head_of bytes most ≡ Some head → (head.count ≤ most) × (length bytes ≡ head_bytes + node_bytes * head.count)
 unfolding head_of
@@ -99,6 +114,19 @@ module _ (bytes : List ℕ) where
       let e : at + word_bytes * suc n ≡ at + word_bytes + word_bytes * n = omega arith in
       rw (words_snoc (at + word_bytes) n, e)
 
+  -- words laid one after the other, from any byte on
+  module _ (at : ℕ) (words : List ℕ) where
+    pub laid_none : words ≡ words_from bytes at 0 ++ drop 0 words
+    unfolding words_from
+    laid_none = refl
+
+    pub laid_more : (after : List ℕ) (k word : ℕ) → k < length words → after ≡ words_from bytes at k ++ drop k words → word ≡ number_at bytes (at + word_bytes * k) word_bytes →
+        set after k word ≡ words_from bytes at (k + 1) ++ drop (k + 1) words
+    laid_more after k word h e q =
+        rw (e, q, add-one, drop-cons words k 0, words_snoc)
+        (set_at (words_from bytes at k) (get_or words k 0) (drop (suc k) words) (number_at bytes (at + word_bytes * k) word_bytes) k (length_words at k)
+        ∙ sym (append_snoc (words_from bytes at k) (number_at bytes (at + word_bytes * k) word_bytes) (drop (suc k) words)))
+
   -- words laid one after the other: those behind the head, which is a word itself
   module _ (words : List ℕ) where
     pub lay_none : words ≡ words_from bytes head_bytes 0 ++ drop 0 words
@@ -129,6 +157,12 @@ module _ (bytes words : List ℕ) where
   pub good_left : (head : Head) (over : List ℕ) (n : ℕ) → head_of bytes (capacity (length words)) ≡ Some head → over ≡ words_from bytes head_bytes n → n ≡ node_words * head.count →
       words_after (over ++ drop (node_words * head.count) words) head.count head.root ≡ words_after_file bytes words
   good_left head over n e f s = rw (e, f, s) refl
+
+module _ (bytes words : List ℕ) where
+  pub answered_laid : (head : Head) → head_of bytes (capacity (length words)) ≡ Some head → (over : List ℕ) → over ≡ laid bytes head.count words →
+      (simplify_reply (simplified_answer over head.count head.root) head.count ≡ file_reply bytes words)
+      × (words_after over head.count head.root ≡ words_after_file bytes words)
+  answered_laid head e over f = (rw (e, f), rw (e, f))
 
 -- what a file is answered by
 pub ruleset answers = (file_fits, length-take-le, good_answer, good_left)

@@ -1,9 +1,11 @@
 -- What a tree's nodes and paths are by its node's children, and what a walk from the node leaves by the walks from them. Assumes nothing.
-use Rattle.std.specs.Prelude.{true, ◌≡◌, List, ℕ, suc, ◌+◌, ◌-◌, ◌<◌, max, refl}
-use Rattle.std.proofs.Common.{ap, ◌∙◌, arith}
+use Rattle.std.specs.Prelude.{Err, Ok, ◌≤◌, true, ◌≡◌, List, ℕ, suc, ◌+◌, ◌-◌, ◌<◌, max, refl}
+use Rattle.std.proofs.Common.{ap, ◌∙◌, arith, le-leb}
+use Rattle.std.proofs.lemmas.Bool.{lt-leb}
 use Rattle.arena.specs.Live.{Live, tree_of}
 use Rattle.arena.specs.LiveLaws.{tree_of_node, below_at}
-use Rattle.form.specs.Paths.{left_over, no_budget, no_path, over_leaf, over_one, over_two}
+use Rattle.form.specs.Paths.{left_over, no_budget, no_path, over_leaf, over_one, over_two, some_left, none_left}
+use Rattle.format.specs.Limits.{max_path, max_unfolded}
 use Rattle.format.specs.Nodes.{node_is_leaf}
 use Rattle.format.specs.Truth.{not_both}
 use Rattle.format.specs.declared.Bin.{Bin}
@@ -11,7 +13,9 @@ use Rattle.format.specs.declared.Node.{Node}
 use Rattle.format.specs.declared.Un.{Un}
 use Rattle.theory.specs.Falls.{path_positive}
 use Rattle.tree.specs.Arena.{node_at, build, Below}
+use Rattle.tree.specs.Form.{limited}
 use Rattle.tree.specs.Tree.{Tree, nodes, path}
+use Rattle.tree.specs.declared.Refusal.{Refusal}
 
 -- the nodes and the longest path over a node's children's trees
 abbrev pub nodes_over : (ℕ → Tree) → Node → ℕ
@@ -98,3 +102,20 @@ module _ {words : List ℕ} {count i : ℕ} (live : Live words count) (below : i
     over_at_two op s left right rest over e r q =
         rw (q, nodes_at _ e, path_at _ e)
         (over_two budget most some (nodes (tree left)) (path (tree left)) (nodes (tree right)) (path (tree right)) rest r)
+
+-- the limits, by what a walk that counts nodes alone and one that looks at paths too leave
+module _ (t : Tree) where
+  pub too_many_spent : (spent : ℕ) → spent ≡ max_unfolded + 1 - nodes t → spent ≡ 0 → Err Refusal.TooManyNodes ≡ limited t
+  too_many_spent spent is none = rw (lt-leb (nodes t) max_unfolded (omega arith))
+
+  module _ (rest : ℕ) (over : rest ≡ left_over (nodes t) (path t) (max_unfolded + 1) max_path) where
+    pub passed_over : 0 < rest → Ok tt ≡ limited t
+    passed_over some =
+        let kept = some_left (nodes t) (path t) max_unfolded max_path (rw over at some) in
+        rw (le-leb (nodes t) max_unfolded kept.0, le-leb (path t) max_path kept.1)
+
+    pub too_long_over : rest ≤ 0 → (spent : ℕ) → spent ≡ max_unfolded + 1 - nodes t → (spent ≡ 0 → ⊥) → Err Refusal.PathTooLong ≡ limited t
+    too_long_over none spent is some =
+        let few : nodes t ≤ max_unfolded = omega arith in
+        let long = none_left (nodes t) (path t) max_unfolded max_path (rw over at none) few in
+        rw (le-leb (nodes t) max_unfolded few, lt-leb (path t) max_path long)

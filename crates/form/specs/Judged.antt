@@ -4,7 +4,7 @@ use Rattle.std.specs.Result.{is_err}
 use Rattle.std.proofs.Common.{lt-ltb, le-ltb, ◌∙◌, arith}
 use Rattle.format.specs.Header.{kind_of}
 use Rattle.format.specs.KindRules.{rows}
-use Rattle.format.specs.Kinds.{kind_count, unknown_kind}
+use Rattle.format.specs.Kinds.{kind_count, row_of, unknown_kind}
 use Rattle.format.specs.Limits.{header_at, payload_at}
 use Rattle.format.specs.declared.Row.{Row}
 use Rattle.format.proofs.KindRules.{row_at}
@@ -35,3 +35,16 @@ module _ (words : List ℕ) (i : ℕ) where
       (Err (Refusal.IllFormed i))
   unfolding judged well_formed well_sized
   judged_by_row row known row_is = rw (lt-ltb (kind_of word) kind_count known, row_is unknown_kind.row ∙ row_at (kind_of word))
+
+  -- the same by the number of kinds and by the kind's row
+  pub unknown_kind_judged : kind_count ≤ kind_of word → judged words i ≡ Err (Refusal.IllFormed i)
+  unfolding judged well_formed
+  unknown_kind_judged h = rw (le-ltb (kind_of word) kind_count h)
+
+  pub judged_by_kind : (row : Row) → kind_of word < kind_count → row ≡ row_of (kind_of word) →
+      judged words i
+      ≡ cond (row_fits row word (payload_at words i) i)
+      (cond (row_sized words row word (payload_at words i)) (Ok tt) (Err (Refusal.IllSized i)))
+      (Err (Refusal.IllFormed i))
+  unfolding judged well_formed well_sized
+  judged_by_kind row known row_is = rw (lt-ltb (kind_of word) kind_count known, row_is)
