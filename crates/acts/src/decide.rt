@@ -14,7 +14,8 @@ use arith::width::Width;
 use format::{Bin, Un};
 use rules::{Act, Beside, Equals, Near};
 
-// What is decided of e: the left child, or the right one, which is then swapped to the left if nothing else is done.
+// What is decided of e: the left child, or the right one, which is then swapped to the left if nothing else is done. Which side it is
+// matters here alone, so a flag says it.
 fn beside_act(beside: Beside, right: bool) -> Act
     ensures { result ≡ (if right then on_right beside else on_left beside) }
 {
@@ -50,6 +51,7 @@ fn equal_act(nodes: Nodes<'_>, op: Bin, a: usize, b: usize) -> Act
     }
 }
 
+/// The decision for two children, and `un_act` that for one: two functions, as there are two definitions.
 #[tactic(auto, using(crate::specs::Views::view_constant_lem, arena::specs::LiveLaws::size_at, crate::specs::Decided::over_size))]
 pub fn bin_act(nodes: Nodes<'_>, op: Bin, size: u64, a: usize, b: usize) -> Act
     requires { BinaryOver nodes.words.now nodes.count op size a b }

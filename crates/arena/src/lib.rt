@@ -11,8 +11,8 @@ use format::{Node, Shape};
 use rules::Near;
 use words::{MAX_NODES, NODE_WORDS};
 
-// How many kinds have no children: the first ones, Top, Entry, Const and Bind. A number of kinds, and no match on the shape, since
-// that one compiles to a table and branches where this is a compare.
+// How many kinds have no children: the first ones, Top, Entry, Const and Bind. A number: a match on the shape was tried, and is a table
+// and branches where this is a compare.
 const LEAF_KINDS: usize = 4;
 
 /// How many nodes a slice of `len` words holds.
@@ -22,7 +22,8 @@ pub fn capacity(len: usize) -> usize
     (len / NODE_WORDS).min(MAX_NODES)
 }
 
-/// Node i's first word, its header. Whether it is a node's at all may not have been checked.
+/// Node i's first word, its header. Whether it is a node's at all may not have been checked: so the words are a slice here, with a
+/// clause that the node lies in it, and no `Nodes`. Each of the two words has a function, a line under its name.
 pub fn header_at(words: &[u64], i: usize) -> u64
     requires { node_words * i + 1 < length words.now }
     ensures { result ≡ header_at words.now i }
@@ -118,7 +119,8 @@ impl Nodes<'_> {
 #[derive(Clone, Copy, Debug, PartialEq, Eq)]
 pub struct NoRoom;
 
-/// A slice whose first `count` nodes have passed the check, or have been appended to such, and that nodes are appended to.
+/// A slice whose first `count` nodes have passed the check, or have been appended to such, and that nodes are appended to. Beside
+/// `Nodes`, as `&mut` is beside `&`.
 #[derive(Drop)]
 pub struct Arena<'a> {
     pub words: &'a mut [u64],

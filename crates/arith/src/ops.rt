@@ -1,4 +1,5 @@
-// The operations that give a number of the operands' width, worked at 64 bits and cut.
+// The operations that give a number of the operands' width, worked at 64 bits and cut. A number stands beside its width, and the clause
+// `Fits` ties them: of an operator's operands some have to fit and some need not, and nodes hold both apart.
 ghost use Rattle.std.specs.Prelude.{◌≡◌, ◌*◌};
 ghost use Rattle.manual.specs.Operations.{int_add, int_sub, int_mult, int_2comp, int_xor, int_or, int_left, int_right};
 ghost use Rattle.arith.specs.Operands.{Fits};

@@ -1,5 +1,5 @@
-// Arithmetic that wraps at 64 bits, beside std's `wrapping_add` and `wrapping_sub`. The project writes these itself, by its rule that
-// what folds a constant is read here whole (docs/DECISIONS.md).
+// Multiply, negation and shifts that wrap at 64 bits, written here, which is a form that the project asks for (docs/DECISIONS.md). Add
+// and subtract are std's.
 ghost use Rattle.std.specs.Prelude.{◌≡◌, ◌%◌};
 ghost use Rattle.manual.specs.Operations.{int_mult, int_2comp, int_left, int_right};
 

@@ -29,7 +29,7 @@ pub fn bad_row(rows: &[u64]) -> Option<usize>
     rows.chunks(ROW_WORDS).position(|row| !good_row(row))
 }
 
-// The value in a row that has these two words. They come one by one, as an input's do.
+// The value in a row that has these two words. They come one by one, as in the definition `found`.
 fn value_in(row: &[u64], word: u64, payload: u64) -> Option<u64>
     ensures { result ≡ value_in row.now word payload }
 {

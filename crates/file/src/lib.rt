@@ -14,13 +14,13 @@ use words::NODE_WORDS;
 
 /// How many words the program's arena has.
 pub const PROGRAM_WORDS: usize = 4096;
-// How many bytes the file's head takes, and a node.
+// How many bytes the file's head takes.
 const HEAD_BYTES: usize = WORD_BYTES;
-
+// And a node.
 const NODE_BYTES: usize = WORD_BYTES * NODE_WORDS;
 // The head has the count above the root: this is what the root stays below.
 const ROOT_BOUND: u64 = 0x1_0000_0000;
-// Answer 11, a bad file: a number, as in the reply that C gets.
+// Answer 11, a bad file: a number, as all answers are in a reply.
 const BAD_FILE: u64 = 11;
 
 /// What a good file's head says of its nodes.
@@ -30,7 +30,8 @@ pub struct Head {
     pub root: usize,
 }
 
-// The head of a file for an arena of at most `most` nodes, where the file is good.
+// The head of a file for an arena of at most `most` nodes, where the file is good. Its halves are a quotient and a remainder, as in
+// the definition.
 #[tactic(auto, using(crate::specs::FileLaws::head_tests))]
 fn read_head(bytes: &[u8], most: usize) -> Option<Head>
     ensures { result ≡ head_of bytes.now most }
@@ -44,7 +45,8 @@ fn read_head(bytes: &[u8], most: usize) -> Option<Head>
     Some(Head { count, root })
 }
 
-// Lays the words of the file's nodes over the words. They follow the head, which is a word too.
+// Lays the words of the file's nodes over the words. They follow the head, which is a word too. `zip` with the chunks was tried: the
+// check knows nothing of the words after it.
 #[tactic(auto, using(crate::specs::FileLaws::lay_none, crate::specs::FileLaws::lay_more))]
 fn lay(bytes: &[u8], words: &mut [u64])
     requires { length bytes.now ≡ head_bytes + word_bytes * length words.old }

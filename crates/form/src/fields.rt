@@ -10,8 +10,8 @@ fn below_if_used(used: bool, child: usize, i: usize) -> bool
     if used { child < i } else { child == 0 }
 }
 
-/// Each field as the kind's line of the table has it. The row, the two words and the index come one by one, as in the definition:
-// a struct of them would be taken apart again in every clause.
+/// Each field as the kind's line of the table has it. The row, the two words and the index come one by one, as in the definition: a
+/// struct of them would be taken apart again in every clause.
 pub fn row_fits(row: Row, word: u64, payload: u64, i: usize) -> bool
     ensures { result ≡ row_fits row word payload i }
 {

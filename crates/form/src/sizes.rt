@@ -9,13 +9,14 @@ use format::{Row, Sizing};
 // Top's number. A number, and no shape, since an unknown kind has Top's shape too, and the definition tells them apart.
 const KIND_TOP: usize = 0;
 
-/// Whether a value may have this size. `matches!` would compile to jumps.
+/// Whether a value may have this size. `matches!` was tried: it compiles to jumps.
 pub fn is_size(size: u64) -> bool
     ensures { result ≡ is_size size }
 {
     (size == 1) | ((size == 2) | ((size == 4) | (size == 8)))
 }
 
+// Three definitions of what a child's size may be, and a line for each.
 fn same_size(size: u64, child: Option<u64>) -> bool
     ensures { result ≡ same_size size child }
 {

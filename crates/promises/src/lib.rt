@@ -1,2 +1,3 @@
-// What the calls promise, as theorems over their definitions: see specs/Promises.antt, and proofs/Promises.antt for their theorems. It has no code.
+// What the calls promise, as theorems over their definitions: see specs/Promises.antt, and
+// proofs/Promises.antt for their theorems. It has no code.
 #![tactic(auto)]

@@ -1,4 +1,4 @@
-// Runs the program's answer on every recorded file, and prints a line for each.
+// Runs the program's answer on every recorded file, and prints a line for each. It allocates nothing.
 #![tactic(auto)]
 
 use file::input::{BUFFER_BYTES, read_full};

@@ -41,7 +41,7 @@ fn visit_two(arena: &mut Arena<'_>, node: Two, ready: bool) -> Result<usize, NoR
 }
 
 /// Visits node i: a leaf is itself. `ready` tells that a rule has rebuilt the node over simplified children: to visit them
-/// would append nothing and return their indices.
+/// would append nothing and return their indices. A flag, and no type: the node is the same, and what differs is what is known of it.
 #[cycle(visits)]
 pub fn visit(arena: &mut Arena<'_>, i: usize, ready: bool) -> Result<usize, NoRoom>
     requires { (i < arena.old.count) × Prepared ready (tree_in arena.old i) }

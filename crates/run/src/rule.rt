@@ -16,7 +16,7 @@ fn is_top(arena: &Arena<'_>, i: usize) -> bool
     arena.nodes().node(i).is_top()
 }
 
-/// The node, whose child has become a.
+/// The node, whose child has become a. This and `after_two` are two, as `One` and `Two` are.
 #[cycle(visits)]
 pub fn after_one(arena: &mut Arena<'_>, node: One, a: usize) -> Result<usize, NoRoom>
     requires { OneReadyIn arena.old node a }

@@ -11,7 +11,7 @@ use std::io;
 use std::io::{Read, Write};
 
 // Reads a file and writes the line that answers it.
-// The buffer is longer than the longest good file, so that a longer one is seen to be bad.
+// The buffer is longer than the longest good file, so that a longer one is seen to be bad, and fixed: the program allocates nothing.
 fn answer_file<R: Read, W: Write>(from: &mut R, to: &mut W) -> io::Result<()>
     ensures { OnOk result (IfSome (R.remaining from.old) (λ bytes.
         Appends (W.contents to.old) (W.contents to.new) (line_of (program_reply bytes)))) }

@@ -10,8 +10,8 @@ use arith::width::Width;
 use format::{Bin, Un};
 use rules::Act;
 
-/// A node of one child: its index and its fields. Nodes of one child and of two have functions of their own from here on, as the
-/// definitions of the run have: they differ in more than a type.
+/// A node of one child: its index and its fields. From here on nodes of one child and of two have a function each, as the run has a
+/// definition for each (`unary_run`, `binary_run`): what they are over differs, and not a type. The size is as the node has it.
 #[derive(Clone, Copy, Debug, PartialEq, Eq)]
 pub struct One {
     pub index: usize,
@@ -30,7 +30,8 @@ pub struct Two {
     pub right: usize,
 }
 
-/// What a rule has made of a node: where it stands, and whether it is to be simplified again.
+/// What a rule has made of a node: where it stands, and whether it is to be simplified again. Neither ends the run, so it is no
+/// `ControlFlow`.
 #[derive(Clone, Copy, Debug, PartialEq, Eq)]
 pub enum Outcome {
     Done(usize),

@@ -17,7 +17,7 @@ use values::make_const;
 pub trait Operator: Copy {
     ghost over_of: { Self → (size a b : ℕ) → Node };
 
-    // Its node over a, or over a and b.
+    /// Its node over a, or over a and b.
     fn over(self, size: u64, a: usize, b: usize) -> Node
         ensures { result ≡ over_of self size a b };
 }
@@ -46,7 +46,7 @@ fn push_const(arena: &mut Arena<'_>, width: Width, v: u64) -> Result<usize, NoRo
 }
 
 /// Carries an action out on a node, short of simplifying again. Its simplified children are a and b, and where it has them
-/// still, `kept` is its index.
+/// still, `kept` is its index. It takes what the definition `settled` takes.
 pub fn settle<O: Operator>(
     arena: &mut Arena<'_>,
     act: Act,

@@ -79,7 +79,7 @@ impl SimplifyReply {
     }
 }
 
-// Number, place, root and count, in decimals with a space between.
+/// Number, place, root and count, in decimals with a space between.
 impl fmt::Display for SimplifyReply {
     ghost output = { λ reply. Some (simplify_text reply) };
 

@@ -1,4 +1,5 @@
-// The three calls for C: a thin static library over the crate simplifier, whose clauses it states again.
+// The three calls for C: a thin static library over the crate simplifier, whose clauses it states again, since a crate is a library or
+// a static library.
 #![tactic(auto)]
 
 ghost use Rattle.std.specs.Prelude.{◌≡◌};

@@ -13,7 +13,7 @@ use arith::ops;
 use arith::width::Width;
 use format::{Bin, Node, Un};
 
-/// x is a number of `child` bytes.
+/// x is a number of `child` bytes. Operators of one operand and of two are apart, as in the definitions.
 #[tactic(auto, using(std::proofs::lemmas::Nat::pow_below))]
 pub fn un_value(op: Un, size: u64, child: u64, x: u64) -> u64
     requires { Extension child size x }
@@ -26,7 +26,8 @@ pub fn un_value(op: Un, size: u64, child: u64, x: u64) -> u64
     }
 }
 
-/// x is a number of `child` bytes. A flag is of its operands, of the children's size.
+/// x is a number of `child` bytes. Each arm makes its width, since a flag is of its operands, of the children's size, and of its own
+/// size nothing is asked.
 #[tactic(auto, unfolding(format::specs::Kinds::row_of))]
 pub fn bin_value(op: Bin, size: u64, child: u64, x: u64, y: u64) -> u64
     requires { Fitting (bin_sizing op) size child x y }

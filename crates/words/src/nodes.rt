@@ -5,7 +5,7 @@ ghost use Rattle.format.specs.Nodes.{node_of, shaped, header_of, payload_of, Nar
 use crate::{fields, kinds};
 use format::{Node, Shape};
 
-// The node of a shape with the fields of its words.
+// The node of a shape with the fields of its words, which come one by one, here and below, as in the definitions.
 fn shaped_node(shape: Shape, word: u64, payload: u64) -> Node
     ensures { result ≡ shaped shape word payload }
 {
