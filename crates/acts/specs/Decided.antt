@@ -39,7 +39,7 @@ keep_either true = refl
 keep_either false = refl
 
 -- a size that passed
-is_size_lem : (s : ℕ) → is_size s ≡ true → Size s
+pub is_size_lem : (s : ℕ) → is_size s ≡ true → Size s
 is_size_lem s e = let b = size_bounds s e in record { least = b.0; most = b.1 }
 
 -- THE OPERANDS OF A FOLD: constants are values, whatever the assignment

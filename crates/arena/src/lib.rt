@@ -3,6 +3,7 @@
 
 ghost use Rattle.std.specs.Prelude.{◌≡◌, ◌+◌, ◌*◌, ◌<◌, length};
 ghost use Rattle.format.specs.Limits.{node_words, capacity as capacity_of, header_at, payload_at};
+ghost use Rattle.format.specs.Nodes.{node_is_const};
 ghost use Rattle.tree.specs.Arena.{node_at, nodes_of};
 ghost use Rattle.arena.specs.Live.{Live};
 ghost use Rattle.arena.specs.LiveProp.{Live-prop};
@@ -47,6 +48,16 @@ pub fn node_at(words: &[u64], i: usize) -> Node
     words::nodes::node_of(header_at(words, i), payload_at(words, i))
 }
 
+/// Whether node i is a constant, by its kind alone.
+#[tactic(auto, unfolding(format::specs::Nodes::node_of))]
+pub fn is_const(words: &[u64], i: usize) -> bool
+    requires { node_words * i + 1 < length words.now }
+    ensures { result ≡ node_is_const (node_at words.now i) }
+{
+    let kind = words::fields::kind_of(header_at(words, i));
+    matches!(words::kinds::shape_of(kind), Shape::Const)
+}
+
 /// A slice whose first `count` nodes have passed the check, or have been appended to such, for reading. Trees are indices into it,
 /// and no boxes: C hands the slice in, and nothing is allocated.
 #[derive(Clone, Copy)]
@@ -58,7 +69,7 @@ pub struct Nodes<'a> {
 
 impl Nodes<'_> {
     ghost use Rattle.rules.specs.Run.{near as near_of};
-    ghost use Rattle.format.specs.Nodes.{node_is_const, node_is_leaf};
+    ghost use Rattle.format.specs.Nodes.{node_is_leaf};
 
     pub fn header(self, i: usize) -> u64
         requires { i < self.count }
@@ -81,14 +92,11 @@ impl Nodes<'_> {
         node_at(self.words, i)
     }
 
-    /// Whether node i is a constant, by its kind alone.
-    #[tactic(auto, unfolding(format::specs::Nodes::node_of))]
     pub fn is_const(self, i: usize) -> bool
         requires { i < self.count }
         ensures { result ≡ node_is_const (node_at self.entry.words.now i) }
     {
-        let kind = words::fields::kind_of(self.header(i));
-        matches!(words::kinds::shape_of(kind), Shape::Const)
+        is_const(self.words, i)
     }
 
     /// Whether node i has no children, by its kind alone.

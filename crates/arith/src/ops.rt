@@ -37,15 +37,15 @@ pub fn neg_at(width: Width, a: u64) -> u64
     width.cut(wrapping_neg(a))
 }
 
-/// Bit by bit, and so alike at every width.
-pub fn xor_at(width: Width, a: u64, b: u64) -> u64
-    ensures { result ≡ int_xor (8 * width.bytes) a b }
+/// Bit by bit, and so alike at every size: these two ask for no width.
+pub fn xor_at(size: u64, a: u64, b: u64) -> u64
+    ensures { result ≡ int_xor (8 * size) a b }
 {
     a ^ b
 }
 
-pub fn or_at(width: Width, a: u64, b: u64) -> u64
-    ensures { result ≡ int_or (8 * width.bytes) a b }
+pub fn or_at(size: u64, a: u64, b: u64) -> u64
+    ensures { result ≡ int_or (8 * size) a b }
 {
     a | b
 }

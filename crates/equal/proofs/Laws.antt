@@ -131,7 +131,7 @@ module _ {words : List ℕ} {count : ℕ} (live : Live words count) where
         ∙ over_own (header_at words i) (header_at words j) (payload_at words i) agreed (shape_of (kind_of (header_at words i)))
 
     -- so its children lie below
-    both_below : alike_at words i j ≡ true → Below i (node_at words i) × Below j other
+    pub both_below : alike_at words i j ≡ true → Below i (node_at words i) × Below j other
     both_below e = (below_at live i hi (node_at words i) refl, below_at live j hj other (node_j e))
 
     pub one_below : {op : Un} {s left : ℕ} → node_at words i ≡ Node.Unary op s left → alike_at words i j ≡ true →

@@ -1,6 +1,6 @@
 -- Numbers in bytes, most significant byte first. Assumes nothing.
 use Rattle.std.specs.Prelude.{List, ◌≡◌, ℕ, zero, suc, ◌+◌, ◌*◌, ◌^◌, ◌≤◌, get_or, take, drop}
-use Rattle.std.specs.Int.{w64, from_be_bytes}
+use Rattle.std.specs.Int.{w16, w64, from_be_bytes}
 use Rattle.std.proofs.Common.{refl, ap, ap₂, sym, ◌∙◌, add_assoc}
 use Rattle.std.proofs.lemmas.List.{get_or-take, get_or-drop}
 use native.Mathlib.Omega.{arith}
@@ -14,6 +14,11 @@ number_at bytes at (suc n) = number_at bytes at n * 2 ^ 8 + get_or bytes (at + n
 pub eight_bytes : (bytes : List ℕ) → from_be_bytes w64 bytes ≡ number_at bytes 0 8
 unfolding number_at
 eight_bytes bytes = omega arith
+
+-- and of two
+pub two_bytes : (bytes : List ℕ) → from_be_bytes w16 bytes ≡ number_at bytes 0 2
+unfolding number_at
+two_bytes bytes = omega arith
 
 -- a number in a part of the bytes
 module _ (bytes : List ℕ) where

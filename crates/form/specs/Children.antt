@@ -43,6 +43,14 @@ module _ (tree : ℕ → Tree) where
   leaf_alone Node.Top l = (refl, refl)
   leaf_alone _ l = (refl, refl)
 
+-- a node that has no one child and no two
+leaf_of_other : (node : Node) → ((op : Un) (s left : ℕ) → node ≡ Node.Unary op s left → ⊥) →
+    ((op : Bin) (s left right : ℕ) → node ≡ Node.Binary op s left right → ⊥) → node_is_leaf node ≡ true
+leaf_of_other (Node.Unary op s left) u b = absurd (u op s left refl)
+leaf_of_other (Node.Binary op s left right) u b = absurd (b op s left right refl)
+leaf_of_other Node.Top u b = refl
+leaf_of_other _ u b = refl
+
 pub nothing_left : (budget : ℕ) → budget ≡ 0 → (t : Tree) → 0 ≡ budget - nodes t
 nothing_left budget none t = omega arith
 
@@ -76,6 +84,10 @@ module _ {words : List ℕ} {count i : ℕ} (live : Live words count) (below : i
   module _ (budget : ℕ) where
     pub spend_leaf : (node : Node) → node_at words i ≡ node → node_is_leaf node ≡ true → budget - 1 ≡ budget - nodes (tree i)
     spend_leaf node e l = rw (nodes_at node e, (leaf_alone tree node l).0)
+
+    pub spend_other : (node : Node) → node_at words i ≡ node → ((op : Un) (s left : ℕ) → node ≡ Node.Unary op s left → ⊥) →
+        ((op : Bin) (s left right : ℕ) → node ≡ Node.Binary op s left right → ⊥) → budget - 1 ≡ budget - nodes (tree i)
+    spend_other node e u b = spend_leaf node e (leaf_of_other node u b)
 
     pub spend_one : (op : Un) (s left : ℕ) → node_at words i ≡ Node.Unary op s left → budget - 1 - nodes (tree left) ≡ budget - nodes (tree i)
     spend_one op s left e = rw (nodes_at _ e) (omega arith)

@@ -1,6 +1,7 @@
 // Runs the program's answer on every recorded file, and prints a line for each. It allocates nothing.
 #![tactic(auto)]
 
+use file::bytes::LENGTH_BYTES;
 use file::input::{BUFFER_BYTES, read_full};
 use std::fs::File;
 use std::io;
@@ -9,11 +10,11 @@ use std::io::{Read, Write};
 // Reads a record, two bytes of length and then a file of that length, into the buffer, and gives the file.
 // None where there is no whole record.
 fn read_record<'a>(records: &mut impl Read, buffer: &'a mut [u8]) -> io::Result<Option<&'a [u8]>> {
-    let mut length = [0u8; 2];
-    if read_full(records, &mut length)? < length.len() {
+    let mut length = [0u8; LENGTH_BYTES];
+    if read_full(records, &mut length)? < LENGTH_BYTES {
         return Ok(None);
     }
-    let size = usize::from(u16::from_be_bytes(length));
+    let size = file::bytes::length(&length);
     if buffer.len() < size {
         return Ok(None);
     }
