@@ -35,7 +35,8 @@ fn judge(words: &[u64], kinds: &[Row], i: usize) -> Result<(), Refusal>
 }
 
 // The nodes upward, left by break at the first bad one, with its verdict: a form that the project asks for (docs/DECISIONS.md). The
-// table of kinds is made once, before the first node.
+// table of kinds is made once, before the first node. Not put in place in `check`, whose first two refusals would wait for its registers.
+#[inline(never)]
 fn scan(words: &[u64], count: usize) -> Result<(), Refusal>
     requires { node_words * count ≤ length words.now }
     ensures { result ≡ scanned words.now count 0 }
