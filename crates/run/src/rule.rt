@@ -16,7 +16,9 @@ fn is_top(arena: &Arena<'_>, i: usize) -> bool
     arena.nodes().node(i).is_top()
 }
 
-/// The node, whose child has become a. This and `after_two` are two, as `One` and `Two` are.
+/// The node, whose child has become a. This and `after_two` are two, as `One` and `Two` are. Neither is put in place in `visit`: what a
+/// rule needs of the stack is then taken once, and not at each node of a path.
+#[inline(never)]
 #[cycle(visits)]
 pub fn after_one(arena: &mut Arena<'_>, node: One, a: usize) -> Result<usize, NoRoom>
     requires { OneReadyIn arena.old node a }
@@ -32,6 +34,7 @@ pub fn after_one(arena: &mut Arena<'_>, node: One, a: usize) -> Result<usize, No
 }
 
 /// The node, whose children have become a and b.
+#[inline(never)]
 #[cycle(visits)]
 pub fn after_two(arena: &mut Arena<'_>, node: Two, a: usize, b: usize) -> Result<usize, NoRoom>
     requires { TwoReadyIn arena.old node a b }
